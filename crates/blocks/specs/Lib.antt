@@ -1,0 +1,5 @@
+pub mod Told
+pub mod Understood
+pub mod Bodies
+pub mod Blocks
+pub mod Steps

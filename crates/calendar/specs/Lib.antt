@@ -1,0 +1,4 @@
+pub mod Digits
+pub mod Days
+pub mod Dates
+pub mod Identities

@@ -1,0 +1,4 @@
+pub mod Counts
+pub mod Flights
+pub mod Standing
+pub mod Kept

@@ -1,0 +1,90 @@
+//! Reads blocks from standard input and answers each in order.
+
+mod desk;
+
+use blocks::Blocks;
+use calendar::Days;
+use desk::answer;
+use element::Airport;
+use element::AirportElement;
+use model::Condition;
+use processor::Processor;
+use register::CarrierCode;
+use register::CdmnetRegister;
+use register::CdmnetRegistered;
+use register::Client;
+use register::User;
+use std::error::AnyError;
+use std::io::Read;
+
+fn carrier(code: &[u8]) -> Result<CarrierCode, AnyError> {
+    let Some(carrier) = CarrierCode::new(code) else {
+        return Err("no carrier code".into());
+    };
+    Ok(carrier)
+}
+
+/// The register of the sample: IP 1 tag 11 is user 1, and so are the carriers QAA and QAB.
+fn sample_register(rt: &LibcRuntime) -> Result<CdmnetRegister, AnyError> {
+    let Some(user) = User::new(1) else {
+        return Err("no user".into());
+    };
+    let qaa = carrier(b"QAA")?;
+    let qab = carrier(b"QAB")?;
+    let mut register = CdmnetRegister::new(rt.alloc())?;
+    register.add_sender(Client { ip: 1, tag: 11 }, user);
+    register.add_carrier(qaa, user);
+    register.add_carrier(qab, user);
+    Ok(register)
+}
+
+/// The airport of the sample. Its days are those of the last list that was issued.
+fn sample_element() -> Result<Airport, AnyError> {
+    let Some(days) = Days::read(b"01", b"31") else {
+        return Err("no days".into());
+    };
+    let Some(airport) = Airport::new(b"MPT", days) else {
+        return Err("no airport".into());
+    };
+    Ok(airport)
+}
+
+fn condition_word(condition: Condition) -> &'static str {
+    match condition {
+        Condition::NoProgram => "none",
+        Condition::On => "on",
+        Condition::Off => "off",
+    }
+}
+
+/// Prints what a block is answered.
+fn print_answer(rt: &LibcRuntime, pair: Option<(u32, usize)>) -> Result<(), AnyError> {
+    match pair {
+        Some((number, second)) => println!(rt, "{number} {second}")?,
+        None => println!(rt, "NOT UNDERSTOOD")?,
+    }
+    Ok(())
+}
+
+fn run(rt: &LibcRuntime) -> Result<(), AnyError> {
+    let mut input = Vec::new(rt.alloc());
+    rt.stdin().read_to_end(&mut input)?;
+    let mut processor = Processor::new(rt.alloc(), sample_register(rt)?, sample_element()?)?;
+    let mut blocks = Blocks::new(input.as_slice());
+    let mut answered: u64 = 0;
+    while let Some(block) = blocks.next_block() {
+        print_answer(rt, answer(&mut processor, block))?;
+        answered = answered.wrapping_add(1);
+    }
+    let condition = condition_word(processor.condition());
+    let flights = processor.flight_count();
+    eprintln!(
+        rt,
+        "{answered} blocks answered; condition {condition}, {flights} flights"
+    )?;
+    Ok(())
+}
+
+fn main(rt: LibcRuntime) -> Result<(), AnyError> {
+    rt.report(run(&rt))
+}

@@ -1,0 +1,4 @@
+pub mod Columns
+pub mod FlightLines
+pub mod Lists
+pub mod Kept

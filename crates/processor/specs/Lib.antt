@@ -1,0 +1,4 @@
+pub mod Conditions
+pub mod Operator
+pub mod Step
+pub mod Kept
