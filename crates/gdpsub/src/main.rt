@@ -1,10 +1,7 @@
-//! Reads blocks from standard input and answers each in order.
+//! Reads blocks from standard input and answers each in order, for the airport MPT.
 
-mod desk;
-
-use blocks::Blocks;
 use calendar::Days;
-use desk::answer;
+use desk::serve;
 use element::Airport;
 use element::AirportElement;
 use model::Condition;
@@ -24,7 +21,7 @@ fn carrier(code: &[u8]) -> Result<CarrierCode, AnyError> {
     Ok(carrier)
 }
 
-/// The register of the sample: IP 1 tag 11 is user 1, and so are the carriers QAA and QAB.
+/// IP 1 tag 11 is user 1, and so are the carriers QAA and QAB.
 fn sample_register(rt: &LibcRuntime) -> Result<CdmnetRegister, AnyError> {
     let Some(user) = User::new(1) else {
         return Err("no user".into());
@@ -38,7 +35,7 @@ fn sample_register(rt: &LibcRuntime) -> Result<CdmnetRegister, AnyError> {
     Ok(register)
 }
 
-/// The airport of the sample. Its days are those of the last list that was issued.
+/// The airport MPT. Its days are those of the last list that was issued.
 fn sample_element() -> Result<Airport, AnyError> {
     let Some(days) = Days::read(b"01", b"31") else {
         return Err("no days".into());
@@ -57,27 +54,13 @@ fn condition_word(condition: Condition) -> &'static str {
     }
 }
 
-/// Prints what a block is answered.
-fn print_answer(rt: &LibcRuntime, pair: Option<(u32, usize)>) -> Result<(), AnyError> {
-    match pair {
-        Some((number, second)) => println!(rt, "{number} {second}")?,
-        None => println!(rt, "NOT UNDERSTOOD")?,
-    }
-    Ok(())
-}
-
 fn run(rt: &LibcRuntime) -> Result<(), AnyError> {
     let mut input = Vec::new(rt.alloc());
     rt.stdin().read_to_end(&mut input)?;
     let mut processor = Processor::new(rt.alloc(), sample_register(rt)?, sample_element()?)?;
-    let mut blocks = Blocks::new(input.as_slice());
-    let mut answered: u64 = 0;
-    while let Some(block) = blocks.next_block() {
-        print_answer(rt, answer(&mut processor, block))?;
-        answered = answered.wrapping_add(1);
-    }
-    let condition = condition_word(processor.condition());
-    let flights = processor.flight_count();
+    let answered = serve(rt, &mut processor, input.as_slice())?;
+    let (condition, flights) = processor.standing();
+    let condition = condition_word(condition);
     eprintln!(
         rt,
         "{answered} blocks answered; condition {condition}, {flights} flights"

@@ -44,18 +44,12 @@ impl<R: Register + Drop, E: Element + Drop> Processor<R, E> {
         })
     }
 
-    /// The condition of the program.
-    pub fn condition(&self) -> Condition
-        ensures { λ r. ⌜ r ≡ now (self .entry) .condition ⌝ }
+    /// How the program stands: its condition, and how many flights the table has.
+    pub fn standing(&self) -> (Condition, usize)
+        ensures condition { λ r. ⌜ r .0 ≡ now (self .entry) .condition ⌝ }
+        ensures flights { λ r. ⌜ r .1 ≡ length (flightsOf (now (self .entry) .table)) ⌝ }
     {
-        self.condition
-    }
-
-    /// How many flights the table has.
-    pub fn flight_count(&self) -> usize
-        ensures { λ r. ⌜ r ≡ length (flightsOf (now (self .entry) .table)) ⌝ }
-    {
-        self.table.len()
+        (self.condition, self.table.len())
     }
 
     /// The number by which the program's condition refuses a call.
