@@ -7,7 +7,7 @@ use lib.Dec.{eqb}
 use lib.ListN.{length}
 use Rattle.std.proofs.shelf.Lists.{length-map}
 use Rattle.text.specs.Parts.{onto}
-use Rattle.blocks.specs.Bodies.{Body, lines, isPoint, lastBody, bodiesFrom, ended}
+use Rattle.blocks.specs.Bodies.{Body, endedLines, isPoint, lastBody, bodiesFrom, ended}
 use Rattle.blocks.specs.Blocks.{blocks}
 
 onto-most : (x n : ℕ) (ls : List (List ℕ)) → length ls ≤ n → length (onto x ls) ≤ suc n
@@ -18,9 +18,9 @@ line-step : (x n : ℕ) (ls : List (List ℕ)) (t : Bool) → length ls ≤ n �
 line-step x n ls true h = omega arith
 line-step x n ls false h = onto-most x n ls h
 
-most-lines : (xs : List ℕ) → length (lines xs) ≤ length xs
+most-lines : (xs : List ℕ) → length (endedLines xs) ≤ length xs
 most-lines [] = omega arith
-most-lines (x ∷ xs) = line-step x (length xs) (lines xs) (eqb x 10) (most-lines xs)
+most-lines (x ∷ xs) = line-step x (length xs) (endedLines xs) (eqb x 10) (most-lines xs)
 
 last-most : (bytes : List ℕ) → length (lastBody bytes) ≤ 1
 last-most [] = omega arith
@@ -36,4 +36,4 @@ most-bodies bytes (l ∷ ls) = body-step (ended bytes) (suc (length ls)) (bodies
 
 -- there is at most one block more than there are bytes
 pub most-blocks : (input : List ℕ) → length (blocks input) ≤ length input + 1
-most-blocks input = simp length-map (omega (arith, most-bodies [] (lines input), most-lines input))
+most-blocks input = simp length-map (omega (arith, most-bodies [] (endedLines input), most-lines input))

@@ -8,9 +8,9 @@ use Rattle.std.specs.shelf.Text.{sameBytes}
 use Rattle.text.specs.Parts.{onto}
 
 -- the lines of an input, each with its LF; the last may lack it, and no bytes are no line
-abbrev pub lines : List ℕ → List (List ℕ)
-lines [] = []
-lines (x ∷ xs) = cond (eqb x 10) ((x ∷ []) ∷ lines xs) (onto x (lines xs))
+abbrev pub endedLines : List ℕ → List (List ℕ)
+endedLines [] = []
+endedLines (x ∷ xs) = cond (eqb x 10) ((x ∷ []) ∷ endedLines xs) (onto x (endedLines xs))
 
 -- a line that is a lone point, with its LF or without
 abbrev pub isPoint : List ℕ → Bool
@@ -33,4 +33,4 @@ bodiesFrom bytes (l ∷ ls) = cond (isPoint l) (ended bytes ∷ bodiesFrom [] ls
 
 -- the bodies of an input: every line up to a lone point, with its LF
 abbrev pub bodies : List ℕ → List Body
-bodies input = bodiesFrom [] (lines input)
+bodies input = bodiesFrom [] (endedLines input)

@@ -3,7 +3,7 @@ ghost use Prim.Native.Nat.{_<_, _≤_};
 ghost use lib.ListN.{length};
 ghost use Rattle.text.specs.Parts.{Gives};
 ghost use Rattle.blocks.specs.Told.{toldOf};
-ghost use Rattle.blocks.specs.Bodies.{lines, isPoint};
+ghost use Rattle.blocks.specs.Bodies.{endedLines, isPoint};
 ghost use Rattle.blocks.specs.Steps.{firstLen, Splits};
 ghost use Rattle.blocks.specs.Blocks.{blocks, blocksLeft};
 use crate::block::Block;
@@ -13,7 +13,7 @@ use text::same;
 
 /// How many bytes the first line has, its LF counted.
 fn line_len(s: &[u8]) -> usize
-    ensures counts { λ r. ⌜ r ≡ firstLen (lines (now (s .entry))) ⌝ }
+    ensures counts { λ r. ⌜ r ≡ firstLen (endedLines (now (s .entry))) ⌝ }
     ensures within { λ r. ⌜ r ≤ length (now (s .entry)) ⌝ }
     ensures moves { λ r. ⌜ (0 < length (now (s .entry)) → 0 < r) ⌝ }
 {
@@ -44,8 +44,8 @@ fn split(input: &[u8]) -> Option<(&[u8], &[u8])>
     None
 }
 
-/// The blocks of an input. A line that is only a point ends each; what follows the last such line is one more, never
-/// understood.
+/// The blocks of an input. A line that is only a point ends each; what follows the last such line, if
+/// anything does, is one more, never understood.
 #[derive(Clone, Copy)]
 pub struct Blocks<'a> {
     rest: &'a [u8],

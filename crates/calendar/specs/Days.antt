@@ -41,7 +41,7 @@ daysRead base month = daysFrom (number base) (number month)
 abbrev pub since : Days → ℕ → ℕ
 since d dd = cond (leb (d .base) dd) (dd - d .base) (dd + d .month - d .base)
 
--- the minute of a day, an hour and a minute of the hour
+-- the minute of a day, an hour and a minute of the hour: none where the day is not one of the seven, or there is no such time
 abbrev pub minuteAt : Days → ℕ → ℕ → ℕ → Option Minute
 minuteAt d dd hh mm =
     cond (leb 1 dd && leb dd (d .month) && leb (since d dd) 6 && leb hh 23 && leb mm 59)

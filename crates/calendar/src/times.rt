@@ -1,7 +1,9 @@
 ghost use mathlib.Core.Path.{_≡_};
+ghost use mathlib.Core.Bool.{cond};
 ghost use Prim.Native.Nat.{_<_};
+ghost use lib.Dec.{leb};
 ghost use Rattle.std.specs.Options.{mapped};
-ghost use Rattle.std.specs.declared.option.Option.the-variants.{Some};
+ghost use Rattle.std.specs.declared.option.Option.the-variants.{Some, None};
 ghost use Rattle.calendar.specs.Days.{daysOf, minuteOf, daysRead, minuteAt, timeRead, timeWritten, dayAfter, ReadsItsDigits};
 use crate::days::Days;
 use crate::days::Minute;
@@ -9,6 +11,17 @@ use crate::digits::number_of;
 use crate::digits::two_digits;
 
 impl Minute {
+    /// The minute with a number below 10,080.
+    pub fn new(value: u16) -> Option<Minute>
+        ensures { λ r. ⌜ mapped minuteOf r ≡ cond (leb value 10079) (Some value) None ⌝ }
+    {
+        if value <= 10_079 {
+            Some(Minute { value })
+        } else {
+            None
+        }
+    }
+
     /// The minute's number, 0 to 10,079.
     pub fn value(self) -> u16
         ensures value { λ r. ⌜ r ≡ minuteOf self ⌝ }

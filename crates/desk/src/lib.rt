@@ -54,6 +54,8 @@ pub fn serve<R: Register + Drop, E: Element + Drop>(
 ) -> Result<usize, AnyError>
     ensures count { λ r. ⌜ made r (λ n. n ≡ length (blocks (now (input .entry)))) ⌝ }
     ensures program { λ r. ⌜ made r (λ _. (programOf (now (processor .exit) .condition) (E·Element .span (now (processor .exit) .element)) (now (processor .exit) .table)) ≡ afterAll (settingOf (R·Register .owner (now (processor .entry) .register)) (R·Register .carrier (now (processor .entry) .register)) (E·Element .means (now (processor .entry) .element))) (programOf (now (processor .entry) .condition) (E·Element .span (now (processor .entry) .element)) (now (processor .entry) .table)) (blocks (now (input .entry)))) ⌝ }
+    ensures register { λ _. ⌜ now (processor .exit) .register ≡ now (processor .entry) .register ⌝ }
+    ensures element { λ _. ⌜ E·Element .means (now (processor .exit) .element) ≡ E·Element .means (now (processor .entry) .element) ⌝ }
 {
     let mut rest = Blocks::new(input);
     let mut answered = 0;

@@ -20,12 +20,17 @@ use Rattle.calendar.specs.declared.days.Days.{Days as KeptDays}
 use Rattle.calendar.specs.Days.{Days, isDays, daysOf}
 use Rattle.calendar.specs.Identities.{isAirport}
 use Rattle.element.specs.Forms.{isAreaName}
-use Rattle.element.specs.Slots.{Slot}
+use Rattle.element.specs.declared.slot.Slot.{Slot as KeptSlot}
+use Rattle.element.specs.Kept.{slotOf}
+use Rattle.element.specs.Slots.{Slot, isPair}
 use Rattle.element.specs.Pointed.{suffixRead, pointedRead}
 
 pub kept-days : (d : KeptDays) → isDays (daysOf d) ≡ true
 kept-days d =
     and-from _ _ (and-from _ _ (and-from _ _ (le-leb 28 (d .month) (d .least)) (le-leb (d .month) 31 (d .most))) (le-leb 1 (d .base) (d .from))) (le-leb (d .base) (d .month) (d .within))
+
+pub kept-pair : (s : KeptSlot) → isPair (slotOf s) ≡ true
+kept-pair s = and-from _ _ (le-leb (s .minute .value) 10079 (omega (arith, s .minute .week))) (and-from _ _ (le-leb 65 (s .letter) (s .least)) (le-leb (s .letter) 90 (s .most)))
 
 pub airport-short : (t : List ℕ) → isAirport t ≡ true → length t ≤ 6
 airport-short t h =

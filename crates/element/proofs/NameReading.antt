@@ -12,7 +12,7 @@ use Rattle.std.specs.declared.option.Option.{Option}
 use Rattle.std.specs.declared.option.Option.the-variants.{Some, None}
 use Rattle.std.specs.shelf.Text.{sameBytes}
 use Rattle.element.specs.Slots.{Slot, isPair}
-use Rattle.element.specs.Meanings.{NamesApart, orElse, firstBelow, pairAt, pairNamed, nameRead}
+use Rattle.element.specs.Meanings.{NamesApart, orElse, firstBelow, pairAt, pairNamed, nameRead, ReadsItsName}
 
 -- where a search below n ended
 pub record Hit {X : Type 0} (n : ℕ) (f : ℕ → Option X) (x : X) : Type 0 where
@@ -112,3 +112,10 @@ none-or names t (Some q) nobody e = let n = read-named names t q e in absurd (no
 -- a text that is nobody's name reads as none
 pub reads-none : (names : Slot → List ℕ) (t : List ℕ) → ((p : Slot) → isPair p ≡ true → names p ≡ t → ⊥) → nameRead names t ≡ None
 reads-none names t nobody = none-or names t (nameRead names t) nobody refl
+
+-- so reading yields a pair exactly when the text is its name
+pub reads-its-name : (names : Slot → List ℕ) (t : List ℕ) → NamesApart names → ReadsItsName names t
+reads-its-name names t apart = record {
+  only = λ p e. (let n = read-named names t p e in (n .pair, n .name));
+  every = λ p h e. ap (nameRead names) (sym e) ∙ name-reads names p apart h;
+}

@@ -59,3 +59,8 @@ pairNamed names t p = cond (sameBytes (names p) t) (Some p) None
 -- name of a pair reads as that pair and that a text that is nobody's name reads as none, and is never unfolded elsewhere
 unfoldable pub nameRead : (Slot → List ℕ) → List ℕ → Option Slot
 nameRead names t = firstBelow 10080 (λ m. firstBelow 26 (λ k. pairNamed names t (pairAt m k)))
+
+-- reading yields a pair exactly when the text is that pair's name
+pub record ReadsItsName (names : Slot → List ℕ) (t : List ℕ) : Type 0 where
+  pub only : (p : Slot) → nameRead names t ≡ Some p → (isPair p ≡ true) × (names p ≡ t)
+  pub every : (p : Slot) → isPair p ≡ true → names p ≡ t → nameRead names t ≡ Some p

@@ -1,15 +1,16 @@
 ghost use mathlib.Core.Path.{_≡_};
 ghost use denote.Ref.{now};
 ghost use Rattle.std.specs.Options.{mapped};
+ghost use Rattle.std.specs.declared.option.Option.the-variants.{Some};
 ghost use Rattle.text.specs.Short.{textOf};
 ghost use Rattle.calendar.specs.Days.{Days as DaysMeant, daysOf};
-ghost use Rattle.element.specs.Meanings.{Meaning, Formed, SlotNamesApart, nameRead};
+ghost use Rattle.element.specs.Meanings.{Meaning, Formed, SlotNamesApart, ReadsItsName, nameRead};
 ghost use Rattle.element.specs.Kept.{slotOf};
 use crate::slot::Slot;
 use calendar::Days;
 use text::ShortText;
 
-/// The name of a slot: 1 to 14 capital letters, digits and points.
+/// The name of a slot, of at most 14 bytes.
 pub type SlotName = ShortText<14>;
 
 /// A controlled element: an airport or a flow constrained area.
@@ -47,9 +48,11 @@ pub trait Element {
 
     /// The pair whose name, by the days given, the text is.
     fn read_name(&self, days: &Days, text: &[u8]) -> Option<Slot>
-        ensures { λ r. ⌜ mapped slotOf r ≡ nameRead (means (now (self .entry)) .slotName (daysOf (now (days .entry)))) (now (text .entry)) ⌝ };
+        ensures exactly { λ _. ⌜ ReadsItsName (means (now (self .entry)) .slotName (daysOf (now (days .entry)))) (now (text .entry)) ⌝ }
+        ensures value { λ r. ⌜ mapped slotOf r ≡ nameRead (means (now (self .entry)) .slotName (daysOf (now (days .entry)))) (now (text .entry)) ⌝ };
 
     /// The name of a pair by the days given.
     fn write_name(&self, days: &Days, slot: &Slot) -> SlotName
-        ensures { λ r. ⌜ textOf r ≡ means (now (self .entry)) .slotName (daysOf (now (days .entry))) (slotOf (now (slot .entry))) ⌝ };
+        ensures back { λ r. ⌜ nameRead (means (now (self .entry)) .slotName (daysOf (now (days .entry)))) (textOf r) ≡ Some (slotOf (now (slot .entry))) ⌝ }
+        ensures value { λ r. ⌜ textOf r ≡ means (now (self .entry)) .slotName (daysOf (now (days .entry))) (slotOf (now (slot .entry))) ⌝ };
 }

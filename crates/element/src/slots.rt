@@ -1,11 +1,34 @@
 ghost use mathlib.Core.Path.{_≡_};
+ghost use mathlib.Core.Bool.{cond};
+ghost use Rattle.std.specs.Options.{mapped};
+ghost use Rattle.std.specs.declared.option.Option.the-variants.{Some, None};
+ghost use Rattle.text.specs.Bytes.{isCapital};
 ghost use Rattle.calendar.specs.Days.{minuteOf};
 ghost use Rattle.element.specs.Slots.{sameSlot, marksPopUp};
+ghost use Rattle.element.specs.Pointed.{withLetter};
 ghost use Rattle.element.specs.Kept.{slotOf};
 use crate::slot::Slot;
 use calendar::Minute;
 
 impl Slot {
+    /// The pair of a minute and a letter A to Z.
+    pub fn new(minute: Minute, letter: u8) -> Option<Slot>
+        ensures { λ r. ⌜ mapped slotOf r ≡ cond (isCapital letter) (Some (withLetter letter (minuteOf minute))) None ⌝ }
+    {
+        if letter >= b'A' && letter <= b'Z' {
+            Some(Slot { minute, letter })
+        } else {
+            None
+        }
+    }
+
+    pub fn letter(&self) -> u8
+        ensures { λ r. ⌜ r ≡ slotOf (now (self .entry)) .letter ⌝ }
+    {
+        let Slot { letter, .. } = *self;
+        letter
+    }
+
     pub fn minute(&self) -> Minute
         ensures { λ r. ⌜ minuteOf r ≡ slotOf (now (self .entry)) .minute ⌝ }
     {

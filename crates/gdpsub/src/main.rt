@@ -1,5 +1,11 @@
 //! Reads blocks from standard input and answers each in order, for the airport MPT.
 
+ghost use mathlib.Core.Path.{_≡_};
+ghost use lib.Chars.{codes};
+ghost use Rattle.std.specs.Vec.{made};
+ghost use Rattle.std.specs.declared.option.Option.the-variants.{Some};
+ghost use Rattle.register.specs.Keys.{lettersOf};
+ghost use Rattle.register.specs.Registers.{cdmnetSenders, cdmnetCarriers};
 use calendar::Days;
 use desk::serve;
 use element::Airport;
@@ -14,7 +20,9 @@ use register::User;
 use std::error::AnyError;
 use std::io::Read;
 
-fn carrier(code: &[u8]) -> Result<CarrierCode, AnyError> {
+fn carrier(code: &[u8]) -> Result<CarrierCode, AnyError>
+    ensures { λ r. ⌜ made r (λ k. lettersOf k ≡ now (code .entry)) ⌝ }
+{
     let Some(carrier) = CarrierCode::new(code) else {
         return Err("no carrier code".into());
     };
@@ -22,7 +30,11 @@ fn carrier(code: &[u8]) -> Result<CarrierCode, AnyError> {
 }
 
 /// IP 1 tag 11 is user 1, and so are the carriers QAA and QAB.
-fn sample_register(rt: &LibcRuntime) -> Result<CdmnetRegister, AnyError> {
+fn sample_register(rt: &LibcRuntime) -> Result<CdmnetRegister, AnyError>
+    ensures sender { λ r. ⌜ made r (λ t. cdmnetSenders t .says (record { ip = 1; tag = 11 }) ≡ Some 1) ⌝ }
+    ensures qaa { λ r. ⌜ made r (λ t. cdmnetCarriers t .says (codes "QAA") ≡ Some 1) ⌝ }
+    ensures qab { λ r. ⌜ made r (λ t. cdmnetCarriers t .says (codes "QAB") ≡ Some 1) ⌝ }
+{
     let Some(user) = User::new(1) else {
         return Err("no user".into());
     };

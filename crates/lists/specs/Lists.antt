@@ -42,7 +42,7 @@ abbrev pub inFront : Option Flight → List Flight → List Flight
 inFront None fs = fs
 inFront (Some f) fs = f ∷ fs
 
--- the flights that lines list, in their order
+-- the flights that lines list, in their order; asked only of lines without a fault, each of which lists one
 abbrev pub listed : Meaning → Days → List Line → List Flight
 listed e d [] = []
 listed e d (l ∷ ls) = inFront (flightRead e d l) (listed e d ls)

@@ -108,7 +108,8 @@ impl<R: Register + Drop, E: Element + Drop> Processor<R, E> {
         (0, 0)
     }
 
-    /// Loads an issue list: a heading, and a line for each flight.
+    /// Loads an issue list: a heading, and a line for each flight. 805 while a program is on or off,
+    /// 651 for a list over 49,152 bytes, 802 with the number of the first faulty line.
     pub fn issue(&mut self, list: &[u8]) -> (u32, usize)
         ensures does { λ r. ⌜ Does (settingOf (R·Register .owner (now (self .entry) .register)) (R·Register .carrier (now (self .entry) .register)) (E·Element .means (now (self .entry) .element))) (programOf (now (self .entry) .condition) (E·Element .span (now (self .entry) .element)) (now (self .entry) .table)) (issue (now (list .entry))) (programOf (now (self .exit) .condition) (E·Element .span (now (self .exit) .element)) (now (self .exit) .table)) r ⌝ }
         ensures lasts { λ _. ⌜ Lasts (settingOf (R·Register .owner (now (self .entry) .register)) (R·Register .carrier (now (self .entry) .register)) (E·Element .means (now (self .entry) .element))) (programOf (now (self .entry) .condition) (E·Element .span (now (self .entry) .element)) (now (self .entry) .table)) (programOf (now (self .exit) .condition) (E·Element .span (now (self .exit) .element)) (now (self .exit) .table)) ⌝ }
@@ -121,7 +122,7 @@ impl<R: Register + Drop, E: Element + Drop> Processor<R, E> {
         self.load(list)
     }
 
-    /// Sets the program on or off.
+    /// Sets the program on or off. 604 without a program.
     pub fn switch(&mut self, on: bool) -> (u32, usize)
         ensures does { λ r. ⌜ Does (settingOf (R·Register .owner (now (self .entry) .register)) (R·Register .carrier (now (self .entry) .register)) (E·Element .means (now (self .entry) .element))) (programOf (now (self .entry) .condition) (E·Element .span (now (self .entry) .element)) (now (self .entry) .table)) (switch on) (programOf (now (self .exit) .condition) (E·Element .span (now (self .exit) .element)) (now (self .exit) .table)) r ⌝ }
         ensures lasts { λ _. ⌜ Lasts (settingOf (R·Register .owner (now (self .entry) .register)) (R·Register .carrier (now (self .entry) .register)) (E·Element .means (now (self .entry) .element))) (programOf (now (self .entry) .condition) (E·Element .span (now (self .entry) .element)) (now (self .entry) .table)) (programOf (now (self .exit) .condition) (E·Element .span (now (self .exit) .element)) (now (self .exit) .table)) ⌝ }
@@ -135,7 +136,7 @@ impl<R: Register + Drop, E: Element + Drop> Processor<R, E> {
         (0, 0)
     }
 
-    /// Ends the program and empties the table.
+    /// Ends the program and empties the table. 604 without a program.
     pub fn purge(&mut self) -> (u32, usize)
         ensures does { λ r. ⌜ Does (settingOf (R·Register .owner (now (self .entry) .register)) (R·Register .carrier (now (self .entry) .register)) (E·Element .means (now (self .entry) .element))) (programOf (now (self .entry) .condition) (E·Element .span (now (self .entry) .element)) (now (self .entry) .table)) purge (programOf (now (self .exit) .condition) (E·Element .span (now (self .exit) .element)) (now (self .exit) .table)) r ⌝ }
         ensures lasts { λ _. ⌜ Lasts (settingOf (R·Register .owner (now (self .entry) .register)) (R·Register .carrier (now (self .entry) .register)) (E·Element .means (now (self .entry) .element))) (programOf (now (self .entry) .condition) (E·Element .span (now (self .entry) .element)) (now (self .entry) .table)) (programOf (now (self .exit) .condition) (E·Element .span (now (self .exit) .element)) (now (self .exit) .table)) ⌝ }
@@ -150,7 +151,8 @@ impl<R: Register + Drop, E: Element + Drop> Processor<R, E> {
         (0, 0)
     }
 
-    /// Marks the flight that four texts name as departed.
+    /// Marks the flight that four texts name as departed. 604 without a program, 705 where no flight
+    /// has that identity or the texts are none.
     pub fn depart(
         &mut self,
         id: &[u8],

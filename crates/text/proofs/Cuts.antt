@@ -5,7 +5,7 @@ use Prim.Native.Nat.{ℕ, _+_, _-_, _<_, _≤_, zero, suc}
 use native.Mathlib.Numerals.{add-one, one-add}
 use native.Mathlib.Omega.{arith}
 use lib.Dec.{eqb, leb}
-use Rattle.std.proofs.shelf.Tests.{le-leb, lt-leb, cond-both}
+use Rattle.std.proofs.shelf.Tests.{le-leb, lt-leb, eq-eqb, ne-eqb}
 use Rattle.std.proofs.shelf.Lists.{take-all, length-take, length-map}
 use lib.ListN.{length, take, drop, getD}
 use Rattle.std.specs.shelf.Lists.{leading}
@@ -52,9 +52,38 @@ pub most-parts : (b : ℕ) (xs : List ℕ) → length (parts b xs) ≤ length xs
 most-parts b [] = omega arith
 most-parts b (x ∷ xs) = most-step x (length xs) (parts b xs) (eqb x b) (most-parts b xs)
 
+-- the last byte, as the code finds it
+last-step : (b x y : ℕ) (xs : List ℕ) (t : Bool) → cond t (x ∷ take (length xs) (y ∷ xs)) (x ∷ y ∷ xs) ≡ x ∷ cond t (take (length xs) (y ∷ xs)) (y ∷ xs)
+last-step b x y xs true = refl
+last-step b x y xs false = refl
+
+pub chomped-is : (b x : ℕ) (xs : List ℕ) → chomped b (x ∷ xs) ≡ cond (eqb (getD (x ∷ xs) (length xs) 0) b) (take (length xs) (x ∷ xs)) (x ∷ xs)
+chomped-is b x [] = refl
+chomped-is b x (y ∷ xs) = ap (λ l. x ∷ l) (chomped-is b y xs) ∙ sym (last-step b x y xs (eqb (getD (y ∷ xs) (length xs) 0) b))
+
+pub chomped-last : (b : ℕ) (xs : List ℕ) → 0 < length xs → chomped b xs ≡ cond (eqb (getD xs (length xs - 1) 0) b) (take (length xs - 1) xs) xs
+chomped-last b [] h = absurd (omega arith)
+chomped-last b (x ∷ xs) h = let e : length (x ∷ xs) - 1 ≡ length xs = omega arith in rw e (chomped-is b x xs)
+
+pub chomped-taken : (b : ℕ) (xs : List ℕ) → 0 < length xs → getD xs (length xs - 1) 0 ≡ b → take (length xs - 1) xs ≡ chomped b xs
+chomped-taken b xs h e = sym (chomped-last b xs h ∙ rw (eq-eqb (getD xs (length xs - 1) 0) b e))
+
+pub chomped-kept : (b : ℕ) (xs : List ℕ) → 0 < length xs → (getD xs (length xs - 1) 0 ≡ b → ⊥) → xs ≡ chomped b xs
+chomped-kept b xs h e = sym (chomped-last b xs h ∙ rw (ne-eqb (getD xs (length xs - 1) 0) b e))
+
+pub chomped-none : (b : ℕ) (xs : List ℕ) → length xs ≡ 0 → chomped b xs ≡ xs
+chomped-none b [] h = refl
+chomped-none b (x ∷ xs) h = absurd (omega arith)
+
 -- without the last byte there are no more bytes
+one-le : (t : Bool) (x : ℕ) → length (cond t [] (x ∷ [])) ≤ 1
+one-le true x = omega arith
+one-le false x = omega arith
+
 pub chomped-le : (b : ℕ) (xs : List ℕ) → length (chomped b xs) ≤ length xs
-chomped-le b xs = cond-both (eqb (getD xs (length xs - 1) 0) b) (take (length xs - 1) xs) xs (λ l. length l ≤ length xs) (λ _. rw length-take (omega arith)) (λ _. omega arith)
+chomped-le b [] = omega arith
+chomped-le b (x ∷ []) = one-le (eqb x b) x
+chomped-le b (x ∷ y ∷ xs) = let h = chomped-le b (y ∷ xs) in omega arith
 
 pub most-lines : (xs : List ℕ) → length (lines xs) ≤ length xs + 1
 most-lines xs = simp length-map (omega (arith, most-parts 10 (chomped 10 xs), chomped-le 10 xs))

@@ -9,7 +9,7 @@ use Rattle.text.specs.declared.lines.Lines.{Lines}
 use Rattle.text.specs.declared.lines.Fields.{Fields}
 use Rattle.text.specs.Parts.{parts, partsOf, chomped}
 
--- a line as it is kept: its first 160 bytes, and whether that is all of it; a line that is not all there is unreadable
+-- a line as it is kept: its first 160 bytes, and whether that is all of it; a longer line is unreadable
 pub record Line : Type 0 where
   pub text : List ℕ
   pub readable : Bool

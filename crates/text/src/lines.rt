@@ -32,15 +32,13 @@ fn cut(s: &[u8], b: u8) -> (&[u8], Option<&[u8]>)
 
 /// Without the last byte, where that is `b`.
 fn chomp(s: &[u8], b: u8) -> &[u8]
-    requires { ⌜ 0 < b ⌝ }
     ensures { λ r. ⌜ now r ≡ chomped b (now (s .entry)) ⌝ }
 {
     let n = s.len();
-    if n > 0 && s[n - 1] == b {
-        &s[0..n - 1]
-    } else {
-        s
+    if n == 0 {
+        return s;
     }
+    if s[n - 1] == b { &s[0..n - 1] } else { s }
 }
 
 /// The fields of a line, parted by exactly one space each.
