@@ -1,5 +1,7 @@
 //! The replies to a packet and to a request, written into a lent buffer.
 
+#![tactic(auto)]
+
 mod accepting;
 mod rejecting;
 mod reporting;

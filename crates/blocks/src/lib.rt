@@ -1,5 +1,7 @@
 //! The blocks of an input, and what each of them says.
 
+#![tactic(auto)]
+
 mod block;
 mod cursor;
 mod reading;

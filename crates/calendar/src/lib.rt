@@ -1,5 +1,7 @@
 //! The days of an element, times and dates, and what identifies a flight.
 
+#![tactic(auto)]
+
 mod dates;
 mod days;
 mod digits;

@@ -1,5 +1,7 @@
 //! The checks of a line alone, and what they ask of the table.
 
+#![tactic(auto)]
+
 mod alone;
 mod holding;
 mod stage_one;

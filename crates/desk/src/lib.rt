@@ -1,5 +1,7 @@
 //! The blocks of a program's input, put to a processor.
 
+#![tactic(auto)]
+
 ghost use Rattle.std.specs.Prelude.{◌≡◌, length, IfOk, OnOk};
 ghost use Rattle.blocks.specs.Told.{told_of};
 ghost use Rattle.blocks.specs.Blocks.{blocks};

@@ -1,5 +1,7 @@
 //! Controlled elements: what they mean, the airport and the flow constrained area.
 
+#![tactic(auto)]
+
 mod airport;
 mod area;
 mod elements;

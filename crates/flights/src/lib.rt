@@ -1,5 +1,7 @@
 //! Flights, the table of them, and the rules that it keeps.
 
+#![tactic(auto)]
+
 mod choice;
 mod flight;
 mod standing;

@@ -1,5 +1,7 @@
 //! Reads blocks from standard input and answers each in order, for the airport MPT.
 
+#![tactic(auto)]
+
 ghost use Rattle.std.specs.Prelude.{◌≡◌, IfOk, Some, codes};
 ghost use Rattle.register.specs.Keys.{letters_of};
 ghost use Rattle.register.specs.Registers.{cdmnet_senders, cdmnet_carriers};

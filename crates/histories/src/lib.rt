@@ -1,5 +1,7 @@
 //! Histories of calls, the laws over them, and the call that runs one.
 
+#![tactic(auto)]
+
 mod running;
 mod turn;
 

@@ -1,5 +1,7 @@
 //! Packets: the header, and message lines with their tags.
 
+#![tactic(auto)]
+
 mod header;
 mod kind;
 mod message;

@@ -1,5 +1,7 @@
 //! The processor of one program for one controlled element.
 
+#![tactic(auto)]
+
 mod calls;
 mod edges;
 mod operator;

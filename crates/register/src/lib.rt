@@ -1,5 +1,7 @@
 //! Which user a sender is, and which user a carrier code belongs to.
 
+#![tactic(auto)]
+
 mod arinc;
 mod asks;
 mod cdmnet;

@@ -1,5 +1,7 @@
 //! The texts of a slot list and of a rejection.
 
+#![tactic(auto)]
+
 mod fields;
 mod names;
 mod openings;

@@ -1,5 +1,7 @@
 //! What a message asks, by the element's names and days.
 
+#![tactic(auto)]
+
 mod asked;
 mod message;
 mod reading;

@@ -1,5 +1,7 @@
 //! Bytes, short texts, lines and fields.
 
+#![tactic(auto)]
+
 mod bytes;
 mod lines;
 mod short;

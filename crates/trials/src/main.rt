@@ -1,6 +1,8 @@
 //! The same engine as gdpsub, for a flow constrained area and an ARINC register of two users. Reads
 //! blocks from standard input and answers each in order.
 
+#![tactic(auto)]
+
 use anyhow::anyhow;
 use calendar::Days;
 use desk::serve;

@@ -1,5 +1,7 @@
 //! Bytes and numbers, written into a lent buffer.
 
+#![tactic(auto)]
+
 mod bytes;
 mod numbers;
 

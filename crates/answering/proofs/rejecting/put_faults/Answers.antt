@@ -13,8 +13,8 @@ loop-row-init c = search (rules, wrote_none)
 pub loop-row-preserved : goal.loop-row-preserved
 loop-row-preserved c = search (rules, each_more row_fault)
 
-pub put-row-fault-end-requires : goal.put-row-fault-end-requires
-put-row-fault-end-requires c =
+pub put_row_fault-end-requires : goal.put_row_fault-end-requires
+put_row_fault-end-requires c =
     let i = c.loop-row.row-index in
     let rows = c.args.rows.now in
     let h : i < length rows = omega arith in (

@@ -10,6 +10,6 @@ unfolding rejected_lines
 returns c =
     let rows = c.args.rows.now in
     record {
-      wrote = wrote_as (c.put-rejected-end.ensures.wrote then c.put-faults.ensures.wrote)
-          (ap (λ (n : ℕ). rejected c.args.id.now n ++ fault_lines (map line_in (map row_of rows)) (map number_of rows)) (sym c.count-faults.ensures.count)) refl refl;
+      wrote = wrote_as (c.put_rejected-end.ensures.wrote then c.put_faults.ensures.wrote)
+          (ap (λ (n : ℕ). rejected c.args.id.now n ++ fault_lines (map line_in (map row_of rows)) (map number_of rows)) (sym c.count_faults.ensures.count)) refl refl;
     }

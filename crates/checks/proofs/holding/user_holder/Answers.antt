@@ -9,15 +9,15 @@ use Rattle.packets.specs.StageTwo.{holder}
 use Rattle.checks.proofs.Scans.{scan_here, scan_later, scan_end}
 use Rattle.checks.proofs.holding.user_holder.Goals as goal
 
-pub returns-then-holds-for : goal.returns-then-holds-for
-returns-then-holds-for g c =
+pub returns-then-holds_for : goal.returns-then-holds_for
+returns-then-holds_for g c =
     let s = setting_of (g.R.Register.owner c.args.register.now) (g.R.Register.carrier c.args.register.now) (g.E.Element.means c.args.element.now) in
     let u = number_of c.args.user in
     let key = slot_of c.args.slot.now in
     let xs = c.args.flights.now in
     let h : c.loop-flight.flight-index < length xs = omega arith in
     sym (c.loop-flight.invariant ∙ scan_here (λ fs. holder s u key (map flight_of fs)) (λ f. owns s u (flight_of f) && is_slot (flight_of f).slot key) (λ f. Some (flight_of f)) (λ f fs. refl)
-    xs c.loop-flight.flight-index c.flight-item.result h c.flight-item.is (sym c.if-holds-for.ensures))
+    xs c.loop-flight.flight-index c.flight-item.result h c.flight-item.is (sym c.if-holds_for.ensures))
 
 pub loop-flight-preserved : goal.loop-flight-preserved
 loop-flight-preserved g c =
@@ -27,7 +27,7 @@ loop-flight-preserved g c =
     let xs = c.args.flights.now in
     let h : c.loop-flight.flight-index < length xs = omega arith in
     c.loop-flight.invariant ∙ scan_later (λ fs. holder s u key (map flight_of fs)) (λ f. owns s u (flight_of f) && is_slot (flight_of f).slot key) (λ f. Some (flight_of f)) (λ f fs. refl)
-    xs c.loop-flight.flight-index c.flight-item.result h c.flight-item.is (sym c.if-holds-for.ensures)
+    xs c.loop-flight.flight-index c.flight-item.result h c.flight-item.is (sym c.if-holds_for.ensures)
 
 pub returns : goal.returns
 returns g c =

@@ -9,6 +9,6 @@ returns c =
     let name = c.args.name.now in
     let text = c.args.text.now in
     let e : length name - 0 ≡ length name = omega arith in
-    c.read-suffix.ensures
+    c.read_suffix.ensures
     ∙ reads_front name (days_of c.args.days.now) text (omega arith)
     (ap (λ (n : ℕ). bytes_eq (take n text) name) (sym e) ∙ sym c.if-not-same.ensures)

@@ -12,5 +12,5 @@ returns-in-Y c = grind (arith, nat_tests, hold_one)
 pub returns-in-N : goal.returns-in-N
 returns-in-N c = grind (arith, nat_tests, hold_one)
 
-pub returns-in-default : goal.returns-in-default
-returns-in-default c = grind (arith, nat_tests, hold_one)
+pub returns-in_default : goal.returns-in_default
+returns-in_default c = grind (arith, nat_tests, hold_one)

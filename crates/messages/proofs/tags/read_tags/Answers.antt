@@ -9,15 +9,15 @@ loop-t-smaller c = search (rules, fewer)
 
 pub loop-t-preserved : goal.loop-t-preserved
 loop-t-preserved c =
-    again (tags_of c.loop-t.tags) (Some (tags_of c.in-Some-with.more)) (fields_left c.loop-t.left.fields) (fields_left c.next-tag.new.self.fields) (said_of c.in-Some.tag) _
+    again (tags_of c.loop-t.tags) (Some (tags_of c.in-Some-with.more)) (fields_left c.loop-t.left.fields) (fields_left c.next_tag.new.self.fields) (said_of c.in-Some.tag) _
     (search rules) (search rules) c.loop-t.invariant
 
 pub returns-in-Err : goal.returns-in-Err
 returns-in-Err c = sym (from_bad (tags_of c.loop-t.tags) (fields_left c.loop-t.left.fields) c.in-Err.ensures) ∙ c.loop-t.invariant
 
-pub returns-in-default-with : goal.returns-in-default-with
-returns-in-default-with c =
-    again (tags_of c.loop-t.tags) None (fields_left c.loop-t.left.fields) (fields_left c.next-tag.new.self.fields) (said_of c.in-Some.tag) _
+pub returns-in_default-with : goal.returns-in_default-with
+returns-in_default-with c =
+    again (tags_of c.loop-t.tags) None (fields_left c.loop-t.left.fields) (fields_left c.next_tag.new.self.fields) (said_of c.in-Some.tag) _
     (search rules) (search rules) c.loop-t.invariant
 
 pub returns : goal.returns

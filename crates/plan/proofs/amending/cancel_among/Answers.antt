@@ -12,7 +12,7 @@ returns-in-Some c =
 pub loop-row-preserved : goal.loop-row-preserved
 loop-row-preserved c =
     let h : c.loop-row.row-index < length c.args.rows.now = omega arith in
-    c.loop-row.invariant ∙ first_later (identity_of c.args.identity.now) cancel_of c.args.rows.now c.loop-row.row-index c.row-item.result h c.row-item.is c.in-default.ensures
+    c.loop-row.invariant ∙ first_later (identity_of c.args.identity.now) cancel_of c.args.rows.now c.loop-row.row-index c.row-item.result h c.row-item.is c.in_default.ensures
 
 pub returns : goal.returns
 returns c = sym (c.loop-row.invariant ∙ first_end (identity_of c.args.identity.now) cancel_of c.args.rows.now c.loop-row.row-index (omega arith))

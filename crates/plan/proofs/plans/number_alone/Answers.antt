@@ -16,4 +16,4 @@ returns g c =
     let rows = c.args.rows.now in
     let i = c.args.i in
     let there = message_there rows i c.index-rows-i.result c.requires c.index-rows-i.is in
-    c.fault-alone.ensures ∙ ap (λ (o : Option Message). fault_alone s p u o) there
+    c.fault_alone.ensures ∙ ap (λ (o : Option Message). fault_alone s p u o) there

@@ -17,6 +17,6 @@ returns g c =
     let there = message_there rows i c.index-rows-i.result c.requires c.index-rows-i.is in
     let zero-off : i - 0 ≡ i = omega arith in
     let before = ap (λ (n : ℕ). map row_of (take n rows)) zero-off ∙ map_take row_of i rows in
-    c.number-beside.ensures
+    c.number_beside.ensures
     ∙ ap (λ (b : List Row). fault_beside s p u (messages_in (map row_of rows)) (messages_in b) (row_of c.index-rows-i.result).message) before
     ∙ ap (λ (o : Option Message). fault_beside s p u (messages_in (map row_of rows)) (messages_in (take i (map row_of rows))) o) there

@@ -5,15 +5,15 @@ use Rattle.replies.proofs.Lengths.{rest_short}
 use Rattle.replies.proofs.fields.put_date.Goals as goal
 
 pub put-end-requires : goal.put-end-requires
-put-end-requires c = omega (arith, rest_short c.args.identity.now.date c.past-two.result.now (c.past-two.ensures ∙ ap (drop 2) c.date.ensures))
+put-end-requires c = omega (arith, rest_short c.args.identity.now.date c.past_two.result.now (c.past_two.ensures ∙ ap (drop 2) c.date.ensures))
 
-pub put-byte-requires : goal.put-byte-requires
-put-byte-requires c = omega (arith, rest_short c.args.identity.now.date c.past-two.result.now (c.past-two.ensures ∙ ap (drop 2) c.date.ensures))
+pub put_byte-requires : goal.put_byte-requires
+put_byte-requires c = omega (arith, rest_short c.args.identity.now.date c.past_two.result.now (c.past_two.ensures ∙ ap (drop 2) c.date.ensures))
 
 pub returns : goal.returns
 returns c =
-    let e : c.past-two.result.now ≡ drop 2 (text_of c.args.identity.now.date) = c.past-two.ensures ∙ ap (drop 2) c.date.ensures in
+    let e : c.past_two.result.now ≡ drop 2 (text_of c.args.identity.now.date) = c.past_two.ensures ∙ ap (drop 2) c.date.ensures in
     record {
-      wrote = (rw e at c.put-end.ensures.wrote) then c.put-byte.ensures.wrote;
-      most = omega (arith, rest_short c.args.identity.now.date c.past-two.result.now e);
+      wrote = (rw e at c.put-end.ensures.wrote) then c.put_byte.ensures.wrote;
+      most = omega (arith, rest_short c.args.identity.now.date c.past_two.result.now e);
     }

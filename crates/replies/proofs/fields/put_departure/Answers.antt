@@ -2,11 +2,11 @@ use Rattle.std.proofs.Common.{arith}
 use Rattle.replies.proofs.Lengths.{text_short}
 use Rattle.replies.proofs.fields.put_departure.Goals as goal
 
-pub put-field-requires : goal.put-field-requires
-put-field-requires c = omega (arith, text_short c.args.identity.now.departure c.departure.result.now c.departure.ensures)
+pub put_field-requires : goal.put_field-requires
+put_field-requires c = omega (arith, text_short c.args.identity.now.departure c.departure.result.now c.departure.ensures)
 
 pub returns : goal.returns
 returns c = record {
-  wrote = rw c.departure.ensures at c.put-field.ensures.wrote;
+  wrote = rw c.departure.ensures at c.put_field.ensures.wrote;
   most = omega (arith, text_short c.args.identity.now.departure c.departure.result.now c.departure.ensures);
 }

@@ -11,8 +11,8 @@ pub returns : goal.returns
 returns g c =
     let means = g.E.Element.means c.args.element.now in
     let names = means.slot_name (days_of c.args.days.now) in
-    let shown : c.as-bytes.result.now ≡ slot_shown means (days_of c.args.days.now) (flight_of c.args.flight.now) = cc in
-    let reads : name_read names c.as-bytes.result.now ≡ pair_shown (flight_of c.args.flight.now) =
+    let shown : c.as_bytes.result.now ≡ slot_shown means (days_of c.args.days.now) (flight_of c.args.flight.now) = cc in
+    let reads : name_read names c.as_bytes.result.now ≡ pair_shown (flight_of c.args.flight.now) =
     rw shown
     (shown_reads means (days_of c.args.days.now) (pair_shown (flight_of c.args.flight.now)) (g.met.E.Element.formed c.args.element.now)
     (g.met.E.Element.apart c.args.element.now) (kept_days c.args.days.now) (kept_pair c.args.flight.now)) in

@@ -6,9 +6,9 @@ pub returns : goal.returns
 returns g c =
     let formed = g.met.E.Element.formed c.args.element.now in
     let name : length c.name.result.now ≤ 6 = rw c.name.ensures formed.short_name in
-    let word : length c.column-word.result.now ≤ 6 = rw c.column-word.ensures formed.short_word in
+    let word : length c.column_word.result.now ≤ 6 = rw c.column_word.ensures formed.short_word in
     record {
       wrote = c.put-end.ensures.wrote then (rw c.name.ensures at c.put-end-2.ensures.wrote) then c.put-end-3.ensures.wrote
-          then c.put-end-4.ensures.wrote then (rw c.column-word.ensures at c.put-end-5.ensures.wrote) then c.put.ensures.wrote;
+          then c.put-end-4.ensures.wrote then (rw c.column_word.ensures at c.put-end-5.ensures.wrote) then c.put.ensures.wrote;
       most = omega arith;
     }

@@ -4,6 +4,6 @@ use Rattle.replies.proofs.rejections.put_fault.Goals as goal
 
 pub returns : goal.returns
 returns c = record {
-  wrote = c.put-end.ensures.wrote then c.put-end-2.ensures.wrote then c.put-number-end.ensures.wrote then c.put.ensures.wrote;
+  wrote = c.put-end.ensures.wrote then c.put-end-2.ensures.wrote then c.put_number-end.ensures.wrote then c.put.ensures.wrote;
   most = search rules;
 }

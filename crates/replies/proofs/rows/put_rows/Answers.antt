@@ -12,7 +12,7 @@ loop-flight-init g c = (wrote_none c.args.out.now c.args.at, omega arith)
 pub loop-flight-preserved : goal.loop-flight-preserved
 loop-flight-preserved g c =
     let text = row_for (g.E.Element.means c.args.element.now) (days_of c.args.days.now) (g.C.Chooses.chosen c.args.choice.now) in (
-      each_more (λ f. text (flight_of f)) c.args.flights.now c.loop-flight.flight-index c.flight-item.result c.loop-flight-test.true c.flight-item.is c.loop-flight.invariant.0 c.put-chosen-end.ensures.wrote,
+      each_more (λ f. text (flight_of f)) c.args.flights.now c.loop-flight.flight-index c.flight-item.result c.loop-flight-test.true c.flight-item.is c.loop-flight.invariant.0 c.put_chosen-end.ensures.wrote,
       omega arith,
     )
 

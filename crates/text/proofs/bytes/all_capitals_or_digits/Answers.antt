@@ -3,8 +3,8 @@ use Rattle.text.specs.Bytes.{is_capital_or_digit}
 use Rattle.text.proofs.Scans.{each_fails, each_passes, each_all}
 use Rattle.text.proofs.bytes.all_capitals_or_digits.Goals as goal
 
-pub returns-then-not-is-capital-or-digit : goal.returns-then-not-is-capital-or-digit
-returns-then-not-is-capital-or-digit c = search (rules, each_fails is_capital_or_digit)
+pub returns-then-not-is_capital_or_digit : goal.returns-then-not-is_capital_or_digit
+returns-then-not-is_capital_or_digit c = search (rules, each_fails is_capital_or_digit)
 
 pub loop-b-preserved : goal.loop-b-preserved
 loop-b-preserved c = search (rules, each_passes is_capital_or_digit)

@@ -3,8 +3,8 @@ use Rattle.text.specs.Bytes.{is_digit}
 use Rattle.text.proofs.Scans.{each_fails, each_passes, each_all}
 use Rattle.text.proofs.bytes.all_digits.Goals as goal
 
-pub returns-then-not-is-digit : goal.returns-then-not-is-digit
-returns-then-not-is-digit c = search (rules, each_fails is_digit)
+pub returns-then-not-is_digit : goal.returns-then-not-is_digit
+returns-then-not-is_digit c = search (rules, each_fails is_digit)
 
 pub loop-b-preserved : goal.loop-b-preserved
 loop-b-preserved c = search (rules, each_passes is_digit)

@@ -1,6 +1,5 @@
-use Rattle.std.proofs.Common.{◌≡◌, ◌-◌, ◌<◌, Bool, cond, length, get_or, take, sym, ap, ◌∙◌, arith, rules}
-use Rattle.std.proofs.lemmas.Bool.{eq-eqb, ne_eqb}
-use Rattle.text.proofs.Cuts.{chomped_last, chomped_none, chomped_kept, chomped_taken}
+use Rattle.std.proofs.Common.{sym, arith, rules}
+use Rattle.text.proofs.Cuts.{chomped_none, chomped_kept, chomped_taken}
 use Rattle.text.proofs.lines.chomp.Goals as goal
 
 pub returns-then-n-eq0 : goal.returns-then-n-eq0

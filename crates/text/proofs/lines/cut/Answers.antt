@@ -1,4 +1,4 @@
-use Rattle.std.proofs.Common.{arith, rules}
+use Rattle.std.proofs.Common.{rules}
 use Rattle.std.proofs.lemmas.List.{take_rest}
 use Rattle.text.proofs.Cuts.{parts_more, parts_all}
 use Rattle.text.proofs.lines.cut.Goals as goal

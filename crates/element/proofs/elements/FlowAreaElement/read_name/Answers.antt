@@ -14,7 +14,7 @@ returns c =
     record {
       exactly = reads_its_name (pointed_name name d) c.args.text.now (pointed_apart name d (kept_days c.args.days.now));
       value =
-          c.read-pointed.ensures
-          ∙ ap (λ n. pointed_read n d c.args.text.now) c.as-bytes.ensures
+          c.read_pointed.ensures
+          ∙ ap (λ n. pointed_read n d c.args.text.now) c.as_bytes.ensures
           ∙ pointed_is name d c.args.text.now (kept_days c.args.days.now);
     }

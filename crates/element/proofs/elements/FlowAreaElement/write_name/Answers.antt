@@ -14,7 +14,7 @@ returns c =
     let name = text_of c.args.self.now.name in
     let d = days_of c.args.days.now in
     let p = slot_of c.args.slot.now in
-    let value = c.write-pointed.ensures ∙ ap (λ n. pointed_name n d p) c.as-bytes.ensures in
+    let value = c.write_pointed.ensures ∙ ap (λ n. pointed_name n d p) c.as_bytes.ensures in
     record {
       back = ap (name_read (pointed_name name d)) value ∙ name_reads (pointed_name name d) p (pointed_apart name d (kept_days c.args.days.now)) (kept_pair c.args.slot.now);
       value = value;

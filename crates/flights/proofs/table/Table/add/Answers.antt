@@ -3,8 +3,8 @@ use Rattle.flights.specs.Kept.{flight_of}
 use Rattle.flights.proofs.Scans.{length_mapped, map_append}
 use Rattle.flights.proofs.table.Table.add.Goals as goal
 
-pub push-reserved-requires : goal.push-reserved-requires
-push-reserved-requires c =
+pub push_reserved-requires : goal.push_reserved-requires
+push_reserved-requires c =
     let t = c.args.self.now in
     omega (arith, c.requires, t.room, t.flights.ok.0, length_mapped flight_of (vec_items t.flights))
 
@@ -15,4 +15,4 @@ invariant-of-self c =
     search rules
 
 pub returns : goal.returns
-returns c = ap (map flight_of) c.push-reserved.ensures.items ∙ map_append flight_of (vec_items c.args.self.now.flights) (c.args.flight ∷ [])
+returns c = ap (map flight_of) c.push_reserved.ensures.items ∙ map_append flight_of (vec_items c.args.self.now.flights) (c.args.flight ∷ [])

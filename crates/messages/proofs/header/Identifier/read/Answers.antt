@@ -7,4 +7,4 @@ use Rattle.messages.proofs.header.Identifier.read.Goals as goal
 pub returns-in-err-text : goal.returns-in-err-text
 returns-in-err-text c =
     ap (option_map identifier_of) c.from-residual.ensures
-    ∙ (c.in-err-text.ensures ∙ identifier_short c.args.text.now (sym c.if-not-is-identifier.ensures))
+    ∙ (c.in-err-text.ensures ∙ identifier_short c.args.text.now (sym c.if-not-is_identifier.ensures))

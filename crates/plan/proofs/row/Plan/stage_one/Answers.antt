@@ -23,11 +23,11 @@ loop-i-preserved g c =
     let in_rows : i < length rs = omega (arith, n, c.loop-i-test.true) in
     let in_numbers : i < length (numbers_of was) = omega (arith, m, inv.1, c.loop-i-test.true) in
     let in_target : i < length (map (fault_alone s p u) (messages_in rs)) = omega (arith, length_alone (fault_alone s p u) rs, in_rows) in
-    let given = c.check-alone.ensures.numbers in
+    let given = c.check_alone.ensures.numbers in
     let value = ap (λ (rows : List Row). fault_alone s p u (message_at rows i)) inv.0 ∙ alone_at (fault_alone s p u) rs i in_rows in (
-      c.check-alone.ensures.rows ∙ inv.0,
-      c.check-alone.ensures.count ∙ inv.1,
-      numbered_more (numbers_of was) (numbers_of c.check-alone.new.self) (map (fault_alone s p u) (messages_in rs)) i _ in_numbers in_target inv.2 given value,
+      c.check_alone.ensures.rows ∙ inv.0,
+      c.check_alone.ensures.count ∙ inv.1,
+      numbered_more (numbers_of was) (numbers_of c.check_alone.new.self) (map (fault_alone s p u) (messages_in rs)) i _ in_numbers in_target inv.2 given value,
     )
 
 pub returns : goal.returns

@@ -22,11 +22,11 @@ loop-i-preserved g c =
     let in_rows : i < length rs = omega (arith, n, c.loop-i-test.true) in
     let in_numbers : i < length (numbers_of was) = omega (arith, m, inv.1, c.loop-i-test.true) in
     let in_target : i < length (faults_beside s p u (messages_in rs) [] (messages_in rs)) = omega (arith, length_beside s p u (messages_in rs) rs, in_rows) in
-    let given = c.check-together.ensures.numbers in
+    let given = c.check_together.ensures.numbers in
     let value = ap (λ (rows : List Row). fault_beside s p u (messages_in rows) (messages_in (take i rows)) (message_at rows i)) inv.0 ∙ beside_at s p u (messages_in rs) rs i in_rows in (
-      c.check-together.ensures.rows ∙ inv.0,
-      c.check-together.ensures.count ∙ inv.1,
-      numbered_more (numbers_of was) (numbers_of c.check-together.new.self) (faults_beside s p u (messages_in rs) [] (messages_in rs)) i _ in_numbers in_target inv.2 given value,
+      c.check_together.ensures.rows ∙ inv.0,
+      c.check_together.ensures.count ∙ inv.1,
+      numbered_more (numbers_of was) (numbers_of c.check_together.new.self) (faults_beside s p u (messages_in rs) [] (messages_in rs)) i _ in_numbers in_target inv.2 given value,
     )
 
 pub returns : goal.returns

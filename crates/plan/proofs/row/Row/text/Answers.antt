@@ -6,4 +6,4 @@ pub returns : goal.returns
 returns c =
     let t = c.args.self.now.text in
     let short : length (text_of t) ≤ 160 = simp length-take (omega (arith, t.short)) in
-    record { text = c.as-bytes.ensures; short = omega (arith, ap length c.as-bytes.ensures, short) }
+    record { text = c.as_bytes.ensures; short = omega (arith, ap length c.as_bytes.ensures, short) }

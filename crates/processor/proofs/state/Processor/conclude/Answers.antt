@@ -15,11 +15,11 @@ use Rattle.processor.specs.Kept.{program_of}
 use Rattle.processor.proofs.Saying.{lines_said, acceptance_said, none_passes, some_fails, all_unmap}
 use Rattle.processor.proofs.state.Processor.conclude.Goals as goal
 
-pub put-line-faults-requires : goal.put-line-faults-requires
-put-line-faults-requires g c =
+pub put_line_faults-requires : goal.put_line_faults-requires
+put_line_faults-requires g c =
     let plan = c.args.plan.now in
     let rows = c.filled.result.now in (
-      c.as-bytes.ensures.short,
+      c.as_bytes.ensures.short,
       (
         omega (arith, c.filled.ensures.count, plan.few),
         (all_unmap number_of rows (subst (λ (ns : List ℕ). All (λ n. n < 1000) ns) (sym c.filled.ensures.numbers) c.requires.0), c.requires.1),
@@ -37,22 +37,22 @@ returns-then-number-ne0 g c =
     let os = messages_in (rows_of plan) in
     let ns = numbers_of plan in
     let rows = c.filled.result.now in
-    let first = c.first-number-number.ensures in
+    let first = c.first_number-number.ensures in
     let text =
-    ap (λ (i : List ℕ). rejected_lines i ls ns) (sym c.as-bytes.ensures.text)
-    ∙ ap (λ (k : List Row). rejected_lines c.as-bytes.result.now (map line_in k) ns) (sym c.filled.ensures.rows)
-    ∙ ap (λ (k : List ℕ). rejected_lines c.as-bytes.result.now (map line_in (map row_of rows)) k) (sym c.filled.ensures.numbers) in
+    ap (λ (i : List ℕ). rejected_lines i ls ns) (sym c.as_bytes.ensures.text)
+    ∙ ap (λ (k : List Row). rejected_lines c.as_bytes.result.now (map line_in k) ns) (sym c.filled.ensures.rows)
+    ∙ ap (λ (k : List ℕ). rejected_lines c.as_bytes.result.now (map line_in (map row_of rows)) k) (sym c.filled.ensures.numbers) in
     record {
-      sends = lines_said s p id ls os ns c.first-number-number.result c.put-line-faults.result c.args.reply.now c.put-line-faults.new.out
-          (some_fails ns (λ z. c.if-number-ne0.true (first ∙ z))) first (wrote_as c.put-line-faults.ensures.wrote text refl refl);
+      sends = lines_said s p id ls os ns c.first_number-number.result c.put_line_faults.result c.args.reply.now c.put_line_faults.new.out
+          (some_fails ns (λ z. c.if-number-ne0.true (first ∙ z))) first (wrote_as c.put_line_faults.ensures.wrote text refl refl);
       register = refl;
       element = refl;
     }
 
-pub put-acceptance-requires : goal.put-acceptance-requires
-put-acceptance-requires g c =
+pub put_acceptance-requires : goal.put_acceptance-requires
+put_acceptance-requires g c =
     let t = c.amend.new.self in
-    (c.as-bytes-2.ensures.short, (omega (arith, ap length c.flights.ensures, length_mapped flight_of c.flights.result.now, length_mapped flight_of (vec_items t.flights), t.few, t.flights.ok.0), c.requires.1))
+    (c.as_bytes-2.ensures.short, (omega (arith, ap length c.flights.ensures, length_mapped flight_of c.flights.result.now, length_mapped flight_of (vec_items t.flights), t.few, t.flights.ok.0), c.requires.1))
 
 pub returns : goal.returns
 returns g c =
@@ -65,16 +65,16 @@ returns g c =
     let os = messages_in (rows_of plan) in
     let ns = numbers_of plan in
     let after = c.amend.new.self in
-    let first = c.first-number-number.ensures in
+    let first = c.first_number-number.ensures in
     let text =
-    ap (λ (i : List ℕ). accepted_list s.element p.days i (messages_of os) (map (amended (messages_of os)) p.flights)) (sym c.as-bytes-2.ensures.text)
-    ∙ ap (λ (d : Days). accepted_list s.element d c.as-bytes-2.result.now (messages_of os) (map (amended (messages_of os)) p.flights)) (sym c.days-days.ensures)
-    ∙ ap (λ (fs : List Flight). accepted_list s.element (days_of c.days-days.result) c.as-bytes-2.result.now (messages_of os) fs) (sym (c.flights.ensures ∙ c.amend.ensures)) in
+    ap (λ (i : List ℕ). accepted_list s.element p.days i (messages_of os) (map (amended (messages_of os)) p.flights)) (sym c.as_bytes-2.ensures.text)
+    ∙ ap (λ (d : Days). accepted_list s.element d c.as_bytes-2.result.now (messages_of os) (map (amended (messages_of os)) p.flights)) (sym c.days-days.ensures)
+    ∙ ap (λ (fs : List Flight). accepted_list s.element (days_of c.days-days.result) c.as_bytes-2.result.now (messages_of os) fs) (sym (c.flights.ensures ∙ c.amend.ensures)) in
     record {
-      sends = acceptance_said s p (program_of old.condition (g.E.Element.span old.element) after) id ls os ns c.put-acceptance.result c.args.reply.now c.put-acceptance.new.out
+      sends = acceptance_said s p (program_of old.condition (g.E.Element.span old.element) after) id ls os ns c.put_acceptance.result c.args.reply.now c.put_acceptance.new.out
           (none_passes ns (sym first ∙ c.if-number-ne0.false))
           (ap (λ (fs : List Flight). record { condition = old.condition; days = g.E.Element.span old.element; flights = fs }) c.amend.ensures)
-          (wrote_as c.put-acceptance.ensures.wrote text refl refl);
+          (wrote_as c.put_acceptance.ensures.wrote text refl refl);
       register = refl;
       element = refl;
     }

@@ -17,7 +17,7 @@ returns g c =
     let p = program_of old.condition (g.E.Element.span old.element) old.table in
     let after = program_of new.condition (g.E.Element.span new.element) new.table in
     let does : Does s p (depart c.args.id.now c.args.departure.now c.args.arrival.now c.args.date.now) after c.mark.result =
-    not_refused (refusal old.condition Depart) p (marked p c.args.id.now c.args.departure.now c.args.arrival.now c.args.date.now) (after, answer c.mark.result) (sym c.in-default.ensures) c.mark.ensures.does in
+    not_refused (refusal old.condition Depart) p (marked p c.args.id.now c.args.departure.now c.args.arrival.now c.args.date.now) (after, answer c.mark.result) (sym c.in_default.ensures) c.mark.ensures.does in
     record {
       does = does;
       lasts = lasts_from s p (depart c.args.id.now c.args.departure.now c.args.arrival.now c.args.date.now) after c.mark.result does;

@@ -17,7 +17,7 @@ returns g c =
     let p = program_of old.condition (g.E.Element.span old.element) old.table in
     let after = program_of new.condition (g.E.Element.span new.element) new.table in
     let does : Does s p (issue c.args.list.now) after c.load.result =
-    not_refused (refusal old.condition Issue) p (loaded s p c.args.list.now) (after, answer c.load.result) (sym c.in-default.ensures) c.load.ensures.does in
+    not_refused (refusal old.condition Issue) p (loaded s p c.args.list.now) (after, answer c.load.result) (sym c.in_default.ensures) c.load.ensures.does in
     record {
       does = does;
       lasts = lasts_from s p (issue c.args.list.now) after c.load.result does;

@@ -23,11 +23,11 @@ returns g c =
     let old = c.args.self.now in
     let s = setting_of (g.R.Register.owner old.register) (g.R.Register.carrier old.register) (g.E.Element.means old.element) in
     let p = program_of old.condition (g.E.Element.span old.element) old.table in
-    let u = user_number c.in-Some-user-of.user in
+    let u = user_number c.in-Some-user_of.user in
     let ls = lines_left c.args.rest in
     let os = map (message_read s.element p.days) ls in
     let start = c.in-Some.ensures in
-    let on : refusal old.condition Packet ≡ None = sym c.refusal.ensures ∙ c.in-default-refusal.is in
+    let on : refusal old.condition Packet ≡ None = sym c.refusal.ensures ∙ c.in_default-refusal.is in
     let rows0 = start.1 ∙ ap (λ (d : Days). map (row_read s.element d) ls) c.days-days.ensures in
     let working : at_work (g.E.Element.span old.element) (flights_of old.table) ≡ p =
     ap (λ (k : Condition). record { condition = k; days = g.E.Element.span old.element; flights = flights_of old.table }) (sym (condition_on old.condition on)) in
@@ -39,5 +39,5 @@ returns g c =
     record {
       rows = c.judge.ensures.rows ∙ rows0;
       small = subst (λ (ns : List ℕ). All (λ n. n < 1000) ns) (sym numbers) (numbers_small s p u os);
-      outcome = ready_outcome s p c.args.sender.now ls u (numbers_of c.judge.new.self) start.0 (sym c.in-Some-user-of.ensures) on numbers;
+      outcome = ready_outcome s p c.args.sender.now ls u (numbers_of c.judge.new.self) start.0 (sym c.in-Some-user_of.ensures) on numbers;
     }

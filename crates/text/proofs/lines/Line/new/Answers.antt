@@ -1,4 +1,3 @@
-use Rattle.std.proofs.Common.{arith}
 use Rattle.text.proofs.Cuts.{clip_all, clip_over, clip_short}
 use Rattle.text.proofs.lines.Line.new.Goals as goal
 
