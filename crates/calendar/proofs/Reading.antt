@@ -1,10 +1,10 @@
 -- A time is read as a minute exactly when it is that minute's six digits.
-use Rattle.std.proofs.Common.{◌≡◌, ℕ, ◌+◌, ◌-◌, ◌*◌, ◌/◌, ◌%◌, ◌<◌, ◌≤◌, Bool, true, false, cond, ◌&&◌, eqb, leb, List, [], ◌∷◌, length, get_or, Some, None, Option, sym, refl, ap, ◌∙◌, arith}
+use Rattle.std.proofs.Common.{◌≡◌, ℕ, ◌+◌, ◌*◌, ◌/◌, ◌%◌, ◌<◌, ◌≤◌, Bool, true, false, cond, eqb, List, [], ◌∷◌, length, get_or, Some, None, Option, refl, ap, ◌∙◌, arith}
 use Rattle.std.proofs.lemmas.Bool.Decides.{nat_tests}
 use Rattle.std.proofs.lemmas.Bool.{eqb-true}
 use Rattle.std.proofs.lemmas.Slice.Eq.{text_from_reads}
 use Rattle.calendar.specs.Digits.{digit, tens_and_ones, two_digits, number}
-use Rattle.calendar.specs.Days.{Days, since, minute_at, minute_from, time_read, day_after, time_written, ReadsItsDigits}
+use Rattle.calendar.specs.Days.{Days, minute_at, minute_from, time_read, day_after, time_written, ReadsItsDigits}
 
 -- what holds of the days that the code keeps
 pub record Month (d : Days) : Type 0 where

@@ -1,10 +1,9 @@
 -- The names of airports and areas, and the days that the code keeps.
-use Rattle.std.specs.Prelude.{◌≡◌, ℕ, ◌-◌, ◌<◌, ◌≤◌, Bool, true, false, cond, ◌&&◌, List, [], ◌∷◌, ◌++◌, length, take, drop, Some, None, codes, Option, nat_le, refl}
+use Rattle.std.specs.Prelude.{◌≡◌, ℕ, ◌-◌, ◌≤◌, Bool, true, ◌&&◌, List, length, take, drop, codes, nat_le}
 use Rattle.std.proofs.Common.{sym, ap, ◌∙◌, arith, take-append-drop}
 use Rattle.std.proofs.lemmas.Bool.{and_parts, and_from, le-leb, leb-true}
 use Rattle.std.proofs.lemmas.Slice.{between_to_end}
 use Rattle.std.proofs.lemmas.Slice.Eq.{bytes_eq-Decides}
-use Rattle.std.specs.Option.{option_map}
 use Rattle.std.specs.Str.{bytes_eq}
 use Rattle.text.specs.Bytes.{is_capital_or_digit, each}
 use Rattle.text.proofs.Scans.{each_append}
@@ -14,8 +13,10 @@ use Rattle.calendar.specs.Identities.{is_airport}
 use Rattle.element.specs.Forms.{is_area_name}
 use Rattle.element.specs.declared.slot.Slot.{Slot as KeptSlot}
 use Rattle.element.specs.Kept.{slot_of}
-use Rattle.element.specs.Slots.{Slot, is_pair}
-use Rattle.element.specs.Pointed.{suffix_read, pointed_read}
+use Rattle.element.specs.Slots.{is_pair}
+use Rattle.element.specs.Meanings.{Formed}
+use Rattle.element.specs.Pointed.{suffix_read, pointed_read, airport_meaning, area_meaning}
+use Rattle.element.specs.PointedNames.{pointed_formed}
 
 pub kept_days : (d : KeptDays) → is_days (days_of d) ≡ true
 kept_days d =
@@ -45,6 +46,22 @@ area_letters t h =
     let front : take 3 t ≡ codes "FCA" = (bytes_eq-Decides (take 3 t) (codes "FCA")).0 same in
     ap (each is_capital_or_digit) (sym (take-append-drop 3 t))
     ∙ each_append is_capital_or_digit (take 3 t) (drop 3 t) (ap (each is_capital_or_digit) front) parts.1
+
+-- the texts of an airport have their form
+pub airport_formed : (code : List ℕ) → is_airport code ≡ true → Formed (airport_meaning code)
+airport_formed code h = record {
+  short_name = airport_short code h;
+  short_word = omega arith;
+  slot_names = λ d p days k. pointed_formed code d p (airport_short code h) (airport_letters code h) days k;
+}
+
+-- the texts of a flow constrained area have their form
+pub area_formed : (name : List ℕ) → is_area_name name ≡ true → Formed (area_meaning name)
+area_formed name h = record {
+  short_name = area_short name h;
+  short_word = omega arith;
+  slot_names = λ d p days k. pointed_formed name d p (area_short name h) (area_letters name h) days k;
+}
 
 pub is_area : (t : List ℕ) (r : Bool) → 4 ≤ length t → length t ≤ 6 → bytes_eq (take 3 t) (codes "FCA") ≡ true → r ≡ each is_capital_or_digit (take (length t - 3) (drop 3 t)) → r ≡ is_area_name t
 is_area t r least most front rest =

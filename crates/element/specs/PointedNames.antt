@@ -1,16 +1,16 @@
 -- Names made of the element's name, a point, a time and a letter: they have their form, are apart, and are read as the names
 -- alone define.
-use Rattle.std.specs.Prelude.{◌≡◌, ℕ, ◌+◌, ◌-◌, ◌*◌, ◌/◌, ◌%◌, ◌<◌, ◌≤◌, Bool, true, false, cond, ◌&&◌, ◌||◌, List, [], ◌∷◌, ◌++◌, length, take, drop, Some, None, Option, ◌==◌, nat_le, slice_index, refl}
-use Rattle.std.proofs.Common.{sym, ap, ◌∙◌, subst, arith, length-append, take-append-drop}
+use Rattle.std.specs.Prelude.{◌≡◌, ℕ, ◌+◌, ◌/◌, ◌%◌, ◌<◌, ◌≤◌, Bool, true, false, cond, ◌&&◌, ◌||◌, List, [], ◌∷◌, ◌++◌, length, take, drop, Some, None, Option, ◌==◌, nat_le, slice_index, refl}
+use Rattle.std.proofs.Common.{sym, ap, ◌∙◌, arith, length-append, take-append-drop}
 use Rattle.std.proofs.lemmas.Bool.{and_parts, and_from, eqb-true, leb-true, le-leb, or_left}
 use Rattle.std.proofs.lemmas.Slice.Eq.{bytes_eq-Decides, text_from_reads}
 use Rattle.std.proofs.lemmas.List.{take_at, drop_at}
 use Rattle.std.proofs.lemmas.Bool.Decides.{nat_tests}
 use Rattle.std.specs.Option.{option_map}
 use Rattle.std.specs.Str.{bytes_eq}
-use Rattle.text.specs.Bytes.{is_capital, is_digit, is_capital_or_digit, each}
+use Rattle.text.specs.Bytes.{is_capital, is_capital_or_digit, each}
 use Rattle.text.proofs.Scans.{each_append}
-use Rattle.calendar.specs.Days.{Days, is_days, day_after, minute_at, minute_from, time_read, time_written}
+use Rattle.calendar.specs.Days.{Days, is_days, day_after, minute_from, time_read, time_written}
 use Rattle.calendar.specs.Digits.{two_digits, two_digits_of}
 use Rattle.calendar.proofs.Reading.{Month, reads_written, written_alone}
 use Rattle.element.specs.Slots.{Slot, is_pair}

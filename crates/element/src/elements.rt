@@ -4,9 +4,8 @@ ghost use Rattle.calendar.specs.Days.{days_of};
 ghost use Rattle.calendar.specs.Identities.{is_airport};
 ghost use Rattle.element.specs.Forms.{is_area_name};
 ghost use Rattle.element.specs.Pointed.{airport_meaning, area_meaning};
-ghost use Rattle.std.proofs.Common.{arith};
-ghost use Rattle.element.specs.PointedNames.{pointed_formed, pointed_apart};
-ghost use Rattle.element.specs.ElementNames.{airport_short, airport_letters, area_short, area_letters};
+ghost use Rattle.element.specs.PointedNames.{pointed_apart};
+ghost use Rattle.element.specs.ElementNames.{airport_formed, area_formed};
 
 use crate::airport::Airport;
 use crate::area::FlowArea;
@@ -34,12 +33,7 @@ impl Element for Airport {
 
     ghost means = { λ a. airport_meaning (text_of a.code) };
 
-    ghost formed = { λ e.
-        record {
-          short-name = airport-short (text_of e.code) e.form;
-          short-word = omega arith;
-          slot-names = λ d p days h. pointed-formed (text_of e.code) d p (airport-short (text_of e.code) e.form) (airport-letters (text_of e.code) e.form) days h;
-        } };
+    ghost formed = { λ e. airport_formed (text_of e.code) e.form };
 
     ghost apart = { λ e d days. pointed_apart (text_of e.code) d days };
 
@@ -100,12 +94,7 @@ impl Element for FlowArea {
 
     ghost means = { λ a. area_meaning (text_of a.name) };
 
-    ghost formed = { λ e.
-        record {
-          short-name = area-short (text_of e.name) e.form;
-          short-word = omega arith;
-          slot-names = λ d p days h. pointed-formed (text_of e.name) d p (area-short (text_of e.name) e.form) (area-letters (text_of e.name) e.form) days h;
-        } };
+    ghost formed = { λ e. area_formed (text_of e.name) e.form };
 
     ghost apart = { λ e d days. pointed_apart (text_of e.name) d days };
 

@@ -1,5 +1,5 @@
 -- A departure leaves the standing rules as they were.
-use Rattle.std.proofs.Common.{◌≡◌, ℕ, Bool, true, false, cond, not, ◌&&◌, leb, List, [], ◌∷◌, ◌++◌, map, length, Some, None, Option, sym, refl, ap, ◌∙◌}
+use Rattle.std.proofs.Common.{◌≡◌, Bool, true, false, cond, not, ◌&&◌, leb, List, [], ◌∷◌, ◌++◌, map, Some, None, Option, sym, refl, ap, ◌∙◌}
 use Rattle.calendar.specs.Identities.{Identity, same_identity}
 use Rattle.element.specs.Slots.{Slot}
 use Rattle.element.specs.Meanings.{Meaning}

@@ -1,7 +1,6 @@
 -- Loops over the flights of a table.
-use Rattle.std.proofs.Common.{◌≡◌, ℕ, zero, suc, ◌+◌, ◌<◌, ◌≤◌, Bool, true, false, List, [], ◌∷◌, ◌++◌, map, length, get_or, take, drop, set, sym, refl, ap, ◌∙◌, add-one, arith, length-append, length-drop, length-take, drop-cons}
+use Rattle.std.proofs.Common.{◌≡◌, ℕ, zero, suc, ◌+◌, ◌<◌, Bool, true, false, List, [], ◌∷◌, ◌++◌, map, length, get_or, take, drop, set, sym, refl, ap, ◌∙◌, add-one, arith, drop-cons}
 use lib.Seq.{drop-length}
-use Rattle.std.proofs.lemmas.List.{length-map}
 use Rattle.flights.specs.Counts.{bump, some}
 
 -- a count F of the elements that pass a test

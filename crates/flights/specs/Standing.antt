@@ -1,5 +1,5 @@
 -- The standing rules of a flight and of a table.
-use Rattle.std.specs.Prelude.{ℕ, ◌+◌, Bool, true, false, not, ◌&&◌, ◌||◌, List, [], ◌∷◌, ◌++◌, length, is_some, Some, None, Option, nat_le, nat_lt}
+use Rattle.std.specs.Prelude.{◌+◌, Bool, true, false, not, ◌&&◌, ◌||◌, List, [], ◌∷◌, ◌++◌, length, is_some, Some, None, Option, nat_le, nat_lt}
 use Rattle.calendar.specs.Days.{Minute}
 use Rattle.element.specs.Slots.{Slot, marks_pop_up}
 use Rattle.element.specs.Meanings.{Meaning}

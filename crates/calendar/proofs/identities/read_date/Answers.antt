@@ -1,4 +1,4 @@
-use Rattle.std.proofs.Common.{◌≡◌, sym, refl, ap, ◌∙◌}
+use Rattle.std.proofs.Common.{sym, ◌∙◌}
 use Rattle.calendar.proofs.Forms.{date_short}
 use Rattle.calendar.proofs.identities.read_date.Goals as goal
 

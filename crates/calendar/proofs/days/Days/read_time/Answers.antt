@@ -1,6 +1,6 @@
 use Rattle.std.proofs.Common.{rules}
 use Rattle.calendar.specs.Days.{days_of}
-use Rattle.calendar.proofs.Reading.{Month, reads_its_digits}
+use Rattle.calendar.proofs.Reading.{reads_its_digits}
 use Rattle.calendar.proofs.days.Days.read_time.Goals as goal
 
 pub returns : goal.returns

@@ -1,7 +1,7 @@
-use Rattle.std.proofs.Common.{◌≡◌, ℕ, ◌<◌, map, length, vec_items, sym, ap, ◌∙◌, arith}
+use Rattle.std.proofs.Common.{◌≡◌, ◌<◌, length, vec_items, ap, ◌∙◌, arith}
 use Rattle.std.proofs.lemmas.List.{map-set}
 use Rattle.flights.specs.Kept.{flight_of, flights_of}
-use Rattle.flights.proofs.Scans.{changed, changed_more, changed_all, length_mapped, get_d_map}
+use Rattle.flights.proofs.Scans.{changed_more, changed_all, length_mapped, get_d_map}
 use Rattle.flights.proofs.table.Table.amend.Goals as goal
 
 pub loop-i-preserved : goal.loop-i-preserved

@@ -1,4 +1,4 @@
-use Rattle.std.proofs.Common.{◌≡◌, vec_items, vec_len}
+use Rattle.std.proofs.Common.{◌≡◌, vec_len}
 use Rattle.flights.specs.Kept.{flights_of}
 use Rattle.flights.proofs.Scans.{changed}
 use Rattle.flights.proofs.table.Table.amend.Given as goal

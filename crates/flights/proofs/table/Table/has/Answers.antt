@@ -1,4 +1,4 @@
-use Rattle.std.proofs.Common.{◌≡◌, ℕ, ◌<◌, List, map, length, sym, refl, ap, ◌∙◌, arith}
+use Rattle.std.proofs.Common.{◌≡◌, ◌<◌, map, length, sym, refl, ap, ◌∙◌, arith}
 use Rattle.calendar.specs.Identities.{identity_of, same_identity}
 use Rattle.flights.specs.Counts.{some}
 use Rattle.flights.specs.Flights.{bearers}

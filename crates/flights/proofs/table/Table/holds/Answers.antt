@@ -1,4 +1,4 @@
-use Rattle.std.proofs.Common.{◌≡◌, ℕ, ◌<◌, List, map, length, sym, refl, ap, ◌∙◌, arith}
+use Rattle.std.proofs.Common.{◌≡◌, ◌<◌, map, length, sym, refl, ap, ◌∙◌, arith}
 use Rattle.element.specs.Kept.{slot_of}
 use Rattle.flights.specs.Counts.{some}
 use Rattle.flights.specs.Flights.{is_slot, holders}
