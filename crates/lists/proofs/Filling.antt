@@ -1,11 +1,10 @@
 -- A loop that fills a table from flight lines.
-use Rattle.std.proofs.Common.{◌≡◌, ℕ, suc, ◌+◌, ◌<◌, Bool, true, false, cond, List, [], ◌∷◌, ◌++◌, length, Some, None, Option, sym, refl, ap, ◌∙◌, append_assoc, append-nil, arith, length-append}
+use Rattle.std.proofs.Common.{◌≡◌, ℕ, suc, ◌+◌, true, false, cond, List, [], ◌∷◌, ◌++◌, length, Some, None, Option, sym, ap, ◌∙◌, append_assoc, append-nil, arith, length-append}
 use Rattle.std.proofs.lemmas.Bool.{true≢false}
 use Rattle.text.specs.Lines.{Line}
 use Rattle.calendar.specs.Days.{Days}
 use Rattle.element.specs.Meanings.{Meaning}
 use Rattle.flights.specs.Flights.{Flight}
-use Rattle.flights.specs.Standing.{joins}
 use Rattle.lists.specs.FlightLines.{flight_read}
 use Rattle.lists.specs.Lists.{is_valid, with_flight, first_fault, in_front, listed}
 

@@ -1,5 +1,5 @@
 -- The flights of a list without a fault keep the standing rules.
-use Rattle.std.proofs.Common.{◌≡◌, ℕ, suc, Bool, true, false, cond, List, [], ◌∷◌, ◌++◌, Some, None, Option, sym, refl, ap, ◌∙◌, arith}
+use Rattle.std.proofs.Common.{◌≡◌, ℕ, suc, Bool, true, false, cond, List, [], ◌∷◌, Some, None, Option, sym, refl, ap, ◌∙◌, arith}
 use Rattle.std.proofs.lemmas.Bool.{and_from}
 use Rattle.text.specs.Lines.{Line}
 use Rattle.calendar.specs.Days.{Days}
@@ -7,7 +7,7 @@ use Rattle.element.specs.Meanings.{Meaning}
 use Rattle.flights.specs.Flights.{Flight}
 use Rattle.flights.specs.Standing.{joins, stands_after, table_stands}
 use Rattle.lists.specs.FlightLines.{flight_read}
-use Rattle.lists.specs.Lists.{is_valid, with_flight, first_fault, in_front, listed, Reading, good, faulty, reading_from, headed, heading_read, list_read}
+use Rattle.lists.specs.Lists.{is_valid, with_flight, first_fault, in_front, listed, good, reading_from, headed, heading_read, list_read}
 
 -- a line without a fault
 step : (e : Meaning) (d : Days) (n : ℕ) (before : List Flight) (rest : List Line) (o : Option Flight) (b : Bool) → is_valid e before o ≡ b → (first_fault e d (suc n) (with_flight before o) rest ≡ None → stands_after e (with_flight before o) (listed e d rest) ≡ true) → cond b (first_fault e d (suc n) (with_flight before o) rest) (Some n) ≡ None → stands_after e before (in_front o (listed e d rest)) ≡ true

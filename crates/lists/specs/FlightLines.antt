@@ -1,5 +1,5 @@
 -- The flight that a line lists.
-use Rattle.std.specs.Prelude.{ℕ, false, List, Some, None, Option}
+use Rattle.std.specs.Prelude.{false, Some, None, Option}
 use Rattle.text.specs.Lines.{Line}
 use Rattle.calendar.specs.Days.{Days, time_read}
 use Rattle.calendar.specs.Identities.{identity_read}

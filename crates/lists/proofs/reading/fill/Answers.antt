@@ -1,4 +1,4 @@
-use Rattle.std.proofs.Common.{length, vec_items, sym, ap, ◌∙◌, arith, rules}
+use Rattle.std.proofs.Common.{vec_items, arith}
 use Rattle.text.specs.Lines.{line_of, lines_left}
 use Rattle.calendar.specs.Days.{days_of}
 use Rattle.flights.specs.Kept.{flight_of, flights_of}
