@@ -1,4 +1,4 @@
-use Rattle.std.proofs.Common.{arith, rules}
+use Rattle.std.proofs.Common.{rules}
 use Rattle.std.proofs.lemmas.List.{take_rest}
 use Rattle.blocks.proofs.Cuts.{point_here, point_later, point_nowhere}
 use Rattle.blocks.proofs.cursor.split.Goals as goal
