@@ -1,7 +1,7 @@
 -- Tags, read one at a time off the fields.
 use Rattle.std.proofs.Common.{◌≡◌, ℕ, ◌<◌, List, [], ◌∷◌, length, get_or, Some, None, Option, sym, refl, ap, ◌∙◌, arith}
 use Rattle.messages.specs.Messages.{Said, Tags, letter_read, hold_read, tag_read, with_tag, and_then, tags_from}
-use Rattle.messages.specs.Kept.{Next, end, bad, got, next_of, next_tag}
+use Rattle.messages.specs.Kept.{end, bad, got, next_of, next_tag}
 
 pub hold_other : (v : List ℕ) → (length v ≡ 1 → ⊥) → None ≡ hold_read v
 hold_other [] h = refl

@@ -5,7 +5,8 @@ use Rattle.messages.proofs.TagSteps.{again, fewer, from_end, from_bad}
 use Rattle.messages.proofs.tags.read_tags.Goals as goal
 
 pub loop-t-smaller : goal.loop-t-smaller
-loop-t-smaller c = search (rules, fewer)
+loop-t-smaller c =
+    fewer (fields_left c.loop-t.left.fields) (said_of c.in-Some.tag) (fields_left c.next_tag.new.self.fields) (search rules)
 
 pub loop-t-preserved : goal.loop-t-preserved
 loop-t-preserved c =

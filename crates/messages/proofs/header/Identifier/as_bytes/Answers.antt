@@ -1,4 +1,4 @@
-use Rattle.std.proofs.Common.{◌≡◌, ◌≤◌, length, ap, arith, length-take}
+use Rattle.std.proofs.Common.{◌≤◌, length, ap, arith, length-take}
 use Rattle.text.specs.Short.{text_of}
 use Rattle.messages.proofs.header.Identifier.as_bytes.Goals as goal
 
