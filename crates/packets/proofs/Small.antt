@@ -1,5 +1,5 @@
 -- Every number of a line is below 1,000.
-use Rattle.std.proofs.Common.{◌≡◌, ℕ, ◌<◌, Bool, true, false, cond, List, [], ◌∷◌, ◌++◌, map, Some, None, Option, sym, refl, ap, ◌∙◌, arith}
+use Rattle.std.proofs.Common.{ℕ, ◌<◌, Bool, true, false, cond, List, [], ◌∷◌, ◌++◌, map, Some, None, Option, arith}
 use Rattle.std.specs.List.{AllByRecursion as All}
 use Rattle.model.specs.Model.{Setting, Program}
 use Rattle.packets.specs.Messages.{Message}

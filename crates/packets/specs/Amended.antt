@@ -1,6 +1,6 @@
 -- What the messages of a packet make of a flight, all at once.
 use Rattle.std.specs.Prelude.{Bool, true, cond, List, [], ◌∷◌, Some, None, Option}
-use Rattle.std.specs.Option.{option_map, unwrap_or}
+use Rattle.std.specs.Option.{unwrap_or}
 use Rattle.calendar.specs.Days.{Minute}
 use Rattle.calendar.specs.Identities.{Identity}
 use Rattle.element.specs.Slots.{Slot}

@@ -1,5 +1,5 @@
 -- What a message asks, by the element's names and days.
-use Rattle.std.specs.Prelude.{ℕ, Bool, true, false, cond, List, Some, None, Option}
+use Rattle.std.specs.Prelude.{ℕ, Bool, false, cond, List, Some, None, Option}
 use Rattle.std.specs.Option.{option_map, unwrap_or}
 use Rattle.text.specs.Lines.{Line}
 use Rattle.calendar.specs.Days.{Days, Minute, time_read}

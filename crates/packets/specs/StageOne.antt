@@ -2,7 +2,6 @@
 use Rattle.std.specs.Prelude.{ℕ, ◌+◌, ◌*◌, Bool, true, false, cond, not, ◌&&◌, ◌||◌, List, [], ◌∷◌, is_some, Some, None, Option, ◌==◌, nat_le, nat_lt}
 use Rattle.calendar.specs.Days.{Minute}
 use Rattle.calendar.specs.Identities.{Identity, same_identity, carrier_of}
-use Rattle.element.specs.Slots.{Slot}
 use Rattle.flights.specs.declared.flight.ControlType.{ControlType}
 use Rattle.flights.specs.Counts.{some, bump}
 use Rattle.flights.specs.Flights.{Flight, is_pop_up, holders}
@@ -10,7 +9,7 @@ use Rattle.flights.specs.Standing.{in_slot}
 use Rattle.messages.specs.declared.kind.MessageType.{MessageType}
 use Rattle.messages.specs.declared.kind.MessageType.TheVariants.{Fx, Fm, Sc}
 use Rattle.model.specs.Model.{Setting, Program}
-use Rattle.packets.specs.Given.{Given, is_invalid, is_absent}
+use Rattle.packets.specs.Given.{is_invalid, is_absent}
 use Rattle.packets.specs.Messages.{Message, Seat, move_of, create_of}
 
 -- the flight with an identity

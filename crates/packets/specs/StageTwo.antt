@@ -8,7 +8,7 @@ use Rattle.messages.specs.declared.kind.MessageType.{MessageType}
 use Rattle.messages.specs.declared.kind.MessageType.TheVariants.{Fx, Fm, Sc}
 use Rattle.model.specs.Model.{Setting, Program}
 use Rattle.packets.specs.Given.{value}
-use Rattle.packets.specs.Messages.{Message, Seat, move_of, is_identity, names}
+use Rattle.packets.specs.Messages.{Message, move_of, names}
 use Rattle.packets.specs.StageOne.{owns, of_seat, first_of}
 
 -- how many messages pass a test

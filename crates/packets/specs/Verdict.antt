@@ -1,11 +1,10 @@
 -- The numbers of a packet's message lines.
-use Rattle.std.specs.Prelude.{ℕ, zero, suc, Bool, true, false, cond, ◌&&◌, List, [], ◌∷◌, map, Some, None, Option, nat_eq}
-use Rattle.text.specs.Lines.{Line}
+use Rattle.std.specs.Prelude.{ℕ, zero, suc, Bool, cond, List, [], ◌∷◌, map, Some, None, Option, nat_eq}
 use Rattle.text.specs.Bytes.{each}
 use Rattle.model.specs.Model.{Setting, Program}
 use Rattle.flights.specs.Counts.{some}
 use Rattle.flights.specs.Flights.{Flight}
-use Rattle.packets.specs.Messages.{Message, message_read, names}
+use Rattle.packets.specs.Messages.{Message, names}
 use Rattle.packets.specs.StageOne.{fault_alone}
 use Rattle.packets.specs.StageTwo.{count, faults_together}
 
