@@ -1,9 +1,8 @@
 -- Steps of the loops over rows.
-use Rattle.std.proofs.Common.{◌≡◌, ℕ, zero, suc, ◌+◌, ◌<◌, ◌≤◌, Bool, true, false, ◌&&◌, leb, List, [], ◌∷◌, ◌++◌, map, length, get_or, take, Some, None, Option, sym, refl, ap, ◌∙◌, append_assoc, append-nil, arith, length-append}
+use Rattle.std.proofs.Common.{◌≡◌, ℕ, zero, suc, ◌+◌, ◌<◌, ◌≤◌, true, false, leb, List, [], ◌∷◌, ◌++◌, map, length, get_or, take, sym, refl, ap, ◌∙◌, append_assoc, append-nil, arith, length-append}
 use Rattle.std.proofs.lemmas.Bool.{and_from, and_left, and_right, le-leb, lt-leb}
 use Rattle.text.specs.Lines.{Line}
 use Rattle.flights.proofs.Scans.{length_mapped}
-use Rattle.packets.specs.Messages.{Message}
 use Rattle.plan.specs.declared.row.Row.{Row as KeptRow}
 use Rattle.plan.specs.Rows.{Row, row_of, message_at}
 use Rattle.messages.specs.Headers.{has_places}

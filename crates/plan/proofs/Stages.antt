@@ -1,13 +1,13 @@
 -- The loops that give each row its number.
-use Rattle.std.proofs.Common.{◌≡◌, ℕ, zero, suc, ◌+◌, ◌<◌, ◌≤◌, Bool, true, false, cond, ◌&&◌, eqb, List, [], ◌∷◌, ◌++◌, map, length, get_or, take, drop, set, Some, None, Option, sym, refl, ap, ◌∙◌, append_assoc, add-one, arith}
+use Rattle.std.proofs.Common.{◌≡◌, ℕ, zero, suc, ◌+◌, ◌<◌, ◌≤◌, Bool, true, false, cond, eqb, List, [], ◌∷◌, ◌++◌, map, length, get_or, take, set, Some, None, Option, sym, refl, ap, ◌∙◌, append_assoc, arith}
 use Rattle.std.proofs.lemmas.List.{take_more, take_more_set, take_all}
-use Rattle.std.proofs.lemmas.Bool.{and_parts, eqb-true}
+use Rattle.std.proofs.lemmas.Bool.{and_parts}
 use Rattle.model.specs.Model.{Setting, Program}
 use Rattle.packets.specs.Messages.{Message}
 use Rattle.packets.specs.StageOne.{fault_alone}
 use Rattle.packets.specs.StageTwo.{faults_together}
 use Rattle.packets.specs.Verdict.{messages_of, all_pass, line_numbers}
-use Rattle.plan.specs.Rows.{Row, message_in, messages_in, message_at, fault_beside, faults_beside}
+use Rattle.plan.specs.Rows.{Row, messages_in, message_at, fault_beside, faults_beside}
 
 -- the numbers so far are those wanted; one more is given
 pub numbered_more : (ns ns' target : List ℕ) (i n : ℕ) → i < length ns → i < length target → take i ns ≡ take i target → ns' ≡ set ns i n → n ≡ get_or target i 0 → take (i + 1) ns' ≡ take (i + 1) target

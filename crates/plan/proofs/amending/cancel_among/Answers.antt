@@ -1,4 +1,4 @@
-use Rattle.std.proofs.Common.{◌≡◌, ◌<◌, length, sym, ◌∙◌, arith}
+use Rattle.std.proofs.Common.{◌<◌, length, sym, ◌∙◌, arith}
 use Rattle.calendar.specs.Identities.{identity_of}
 use Rattle.packets.specs.Amended.{cancel_of}
 use Rattle.plan.proofs.Counting.{first_here, first_later, first_end}

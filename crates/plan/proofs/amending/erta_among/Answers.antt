@@ -1,4 +1,4 @@
-use Rattle.std.proofs.Common.{◌≡◌, ◌<◌, length, sym, ◌∙◌, arith}
+use Rattle.std.proofs.Common.{◌<◌, length, sym, ◌∙◌, arith}
 use Rattle.calendar.specs.Identities.{identity_of}
 use Rattle.packets.specs.Amended.{erta_of}
 use Rattle.calendar.specs.Days.{minute_of}

@@ -1,4 +1,4 @@
-use Rattle.std.proofs.Common.{◌≡◌, ◌<◌, length, sym, ◌∙◌, arith}
+use Rattle.std.proofs.Common.{◌<◌, length, sym, ◌∙◌, arith}
 use Rattle.calendar.specs.Identities.{identity_of}
 use Rattle.packets.specs.Messages.{seat_of}
 use Rattle.substitutions.specs.Kept.{kept_seat}

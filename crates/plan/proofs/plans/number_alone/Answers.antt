@@ -1,10 +1,9 @@
-use Rattle.std.proofs.Common.{◌≡◌, ℕ, ◌-◌, List, map, take, Option, sym, refl, ap, ◌∙◌, arith}
+use Rattle.std.proofs.Common.{Option, ap, ◌∙◌}
 use Rattle.flights.specs.Kept.{flights_of}
 use Rattle.register.specs.Users.{number_of as user_number}
 use Rattle.packets.specs.Messages.{Message}
 use Rattle.packets.specs.StageOne.{fault_alone}
 use Rattle.model.specs.Model.{setting_of, at_work}
-use Rattle.plan.specs.Rows.{row_of, message_at}
 use Rattle.plan.proofs.RowSteps.{message_there}
 use Rattle.plan.proofs.plans.number_alone.Goals as goal
 

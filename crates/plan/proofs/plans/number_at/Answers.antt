@@ -1,9 +1,9 @@
-use Rattle.std.proofs.Common.{◌≡◌, ℕ, ◌-◌, List, map, take, Option, sym, refl, ap, ◌∙◌, arith}
+use Rattle.std.proofs.Common.{◌≡◌, ℕ, ◌-◌, List, map, take, Option, ap, ◌∙◌, arith}
 use Rattle.flights.specs.Kept.{flights_of}
 use Rattle.register.specs.Users.{number_of as user_number}
 use Rattle.packets.specs.Messages.{Message}
 use Rattle.model.specs.Model.{setting_of, at_work}
-use Rattle.plan.specs.Rows.{Row, row_of, messages_in, message_at, fault_beside}
+use Rattle.plan.specs.Rows.{Row, row_of, messages_in, fault_beside}
 use Rattle.plan.proofs.RowSteps.{message_there, map_take}
 use Rattle.plan.proofs.plans.number_at.Goals as goal
 

@@ -1,4 +1,4 @@
-use Rattle.std.proofs.Common.{◌≡◌, ◌<◌, true, map, length, sym, refl, ◌∙◌, arith}
+use Rattle.std.proofs.Common.{◌≡◌, ◌<◌, true, map, length, sym, ◌∙◌, arith}
 use Rattle.flights.specs.Counts.{some}
 use Rattle.packets.specs.StageTwo.{count}
 use Rattle.packets.specs.Verdict.{messages_of}

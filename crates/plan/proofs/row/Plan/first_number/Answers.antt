@@ -1,4 +1,4 @@
-use Rattle.std.proofs.Common.{◌≡◌, ℕ, ◌<◌, map, length, sym, refl, ap, ◌∙◌, arith}
+use Rattle.std.proofs.Common.{◌≡◌, ◌<◌, length, sym, ap, ◌∙◌, arith}
 use Rattle.packets.specs.Verdict.{first_number}
 use Rattle.plan.specs.Rows.{number_of}
 use Rattle.plan.proofs.Numbers.{number_here, number_later, number_end}

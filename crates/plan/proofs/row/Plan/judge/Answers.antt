@@ -1,4 +1,4 @@
-use Rattle.std.proofs.Common.{◌≡◌, true, false, List, [], map, sym, refl, ap, ◌∙◌}
+use Rattle.std.proofs.Common.{true, List, [], ap, ◌∙◌}
 use Rattle.flights.specs.Kept.{flights_of}
 use Rattle.register.specs.Users.{number_of as user_number}
 use Rattle.packets.specs.Verdict.{all_pass}

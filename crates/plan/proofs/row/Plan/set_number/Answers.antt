@@ -1,4 +1,4 @@
-use Rattle.std.proofs.Common.{refl, rules}
+use Rattle.std.proofs.Common.{refl}
 use Rattle.plan.specs.Rows.{row_of, number_of}
 use Rattle.plan.proofs.Stores.{stored_unseen, stored_seen}
 use Rattle.plan.proofs.row.Plan.set_number.Goals as goal

@@ -1,4 +1,4 @@
-use Rattle.std.proofs.Common.{◌≡◌, ℕ, ◌<◌, ◌≤◌, List, [], map, length, take, set, sym, refl, ap, ◌∙◌, arith}
+use Rattle.std.proofs.Common.{◌<◌, List, map, length, ap, ◌∙◌, arith}
 use Rattle.flights.specs.Kept.{flights_of}
 use Rattle.register.specs.Users.{number_of as user_number}
 use Rattle.model.specs.Model.{setting_of, at_work}

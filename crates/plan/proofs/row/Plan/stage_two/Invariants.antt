@@ -1,7 +1,6 @@
-use Rattle.std.proofs.Common.{◌≡◌, [], map, take}
+use Rattle.std.proofs.Common.{◌≡◌, [], take}
 use Rattle.flights.specs.Kept.{flights_of}
 use Rattle.register.specs.Users.{number_of as user_number}
-use Rattle.packets.specs.StageOne.{fault_alone}
 use Rattle.model.specs.Model.{setting_of, at_work}
 use Rattle.plan.specs.Rows.{rows_of, numbers_of, messages_in, faults_beside}
 use Rattle.plan.proofs.row.Plan.stage_two.Given as goal

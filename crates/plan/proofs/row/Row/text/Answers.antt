@@ -1,4 +1,4 @@
-use Rattle.std.proofs.Common.{◌≡◌, ◌≤◌, length, take, ap, arith, length-take}
+use Rattle.std.proofs.Common.{◌≤◌, length, ap, arith, length-take}
 use Rattle.text.specs.Short.{text_of}
 use Rattle.plan.proofs.row.Row.text.Goals as goal
 
