@@ -1,5 +1,5 @@
 -- The name shown for a flight reads as the pair that it names.
-use Rattle.std.proofs.Common.{◌≡◌, ◌<◌, Bool, true, false, cond, leb, Some, None, codes, Option, sym, refl, ap, ◌∙◌, arith}
+use Rattle.std.proofs.Common.{◌≡◌, ◌<◌, Bool, true, false, cond, Some, None, codes, Option, sym, refl, ap, ◌∙◌, arith}
 use Rattle.std.proofs.lemmas.Bool.{and_from, le-leb, true≢false}
 use Rattle.std.specs.Option.{option_map}
 use Rattle.calendar.specs.declared.days.Minute.{Minute as KeptMinute}
