@@ -1,9 +1,9 @@
 -- Faulty lines, counted and written.
-use Rattle.std.proofs.Common.{◌≡◌, ℕ, zero, suc, ◌+◌, ◌<◌, ◌≤◌, Bool, true, false, List, [], ◌∷◌, ◌++◌, map, length, get_or, take, sym, refl, ap, ◌∙◌, arith}
+use Rattle.std.proofs.Common.{◌≡◌, ℕ, zero, suc, ◌+◌, ◌<◌, Bool, true, false, List, [], ◌∷◌, ◌++◌, map, length, get_or, take, sym, refl, ap, ◌∙◌, arith}
 use Rattle.std.specs.List.{flat_map}
-use Rattle.std.proofs.lemmas.List.{take_more, take_all}
+use Rattle.std.proofs.lemmas.List.{take_more}
 use Rattle.text.specs.Lines.{Line}
-use Rattle.flights.specs.Counts.{bump, some}
+use Rattle.flights.specs.Counts.{bump}
 use Rattle.flights.proofs.Scans.{map_append}
 use Rattle.plan.specs.declared.row.Row.{Row as KeptRow}
 use Rattle.plan.specs.Rows.{row_of, number_of}

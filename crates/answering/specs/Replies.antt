@@ -1,5 +1,5 @@
 -- The replies to a packet and to a request.
-use Rattle.std.specs.Prelude.{ℕ, zero, suc, Bool, cond, List, [], ◌∷◌, ◌++◌, codes}
+use Rattle.std.specs.Prelude.{ℕ, zero, suc, Bool, List, [], ◌∷◌, ◌++◌, codes}
 use Rattle.text.specs.Lines.{Line}
 use Rattle.calendar.specs.Days.{Days}
 use Rattle.element.specs.Meanings.{Meaning}

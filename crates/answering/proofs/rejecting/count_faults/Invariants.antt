@@ -1,4 +1,4 @@
-use Rattle.std.proofs.Common.{◌≡◌, ◌+◌, ◌≤◌, map, take, drop}
+use Rattle.std.proofs.Common.{◌≡◌, ◌≤◌, map, take}
 use Rattle.plan.specs.Rows.{number_of}
 use Rattle.answering.specs.Replies.{faults}
 use Rattle.answering.proofs.rejecting.count_faults.Given as goal

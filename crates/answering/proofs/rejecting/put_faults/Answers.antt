@@ -1,4 +1,4 @@
-use Rattle.std.proofs.Common.{◌≡◌, ◌<◌, length, sym, refl, subst, arith, rules}
+use Rattle.std.proofs.Common.{◌<◌, length, sym, refl, subst, arith, rules}
 use Rattle.std.proofs.ByRecursion.{All-get_or}
 use Rattle.writing.proofs.Overlays.{wrote_none, wrote_as}
 use Rattle.writing.proofs.Each.{each_more, each_all}

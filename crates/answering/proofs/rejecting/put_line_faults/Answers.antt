@@ -1,4 +1,4 @@
-use Rattle.std.proofs.Common.{◌≡◌, ℕ, ◌++◌, map, sym, refl, ap}
+use Rattle.std.proofs.Common.{ℕ, ◌++◌, map, sym, refl, ap}
 use Rattle.writing.proofs.Overlays.{◌then◌, wrote_as}
 use Rattle.replies.specs.Rejections.{rejected}
 use Rattle.plan.specs.Rows.{row_of, number_of}

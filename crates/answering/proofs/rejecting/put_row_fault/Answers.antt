@@ -1,7 +1,7 @@
-use Rattle.std.proofs.Common.{◌≡◌, sym, refl, ◌∙◌, arith}
+use Rattle.std.proofs.Common.{sym, refl, ◌∙◌, arith}
 use Rattle.writing.proofs.Overlays.{wrote_none, wrote_as}
 use Rattle.plan.specs.Rows.{row_of, number_of}
-use Rattle.answering.proofs.Faults.{fault_none, fault_some}
+use Rattle.answering.proofs.Faults.{fault_none}
 use Rattle.answering.proofs.rejecting.put_row_fault.Goals as goal
 
 pub returns-then-number-eq0 : goal.returns-then-number-eq0
