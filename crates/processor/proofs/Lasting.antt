@@ -1,5 +1,5 @@
 -- The standing rules last over every call.
-use Rattle.std.proofs.Common.{◌≡◌, ℕ, Bool, true, false, cond, ◌&&◌, ltb, leb, List, [], ◌∷◌, map, length, Some, None, Option, sym, refl, ap, ◌∙◌}
+use Rattle.std.proofs.Common.{◌≡◌, ℕ, Bool, true, false, cond, ltb, leb, List, [], ◌∷◌, map, length, Some, None, Option, sym, refl, ap, ◌∙◌}
 use Rattle.std.proofs.lemmas.Bool.{and_parts, and_from}
 use Rattle.text.specs.Lines.{Line, lines}
 use Rattle.calendar.specs.Identities.{Identity, identity_read}
@@ -12,7 +12,7 @@ use Rattle.lists.specs.Lists.{Reading, good, faulty, list_read}
 use Rattle.lists.proofs.Standing.{list_stands}
 use Rattle.model.specs.declared.Condition.{Condition}
 use Rattle.model.specs.declared.Condition.TheVariants.{NoProgram, On, Off}
-use Rattle.model.specs.Model.{Setting, Program, Call, Answer, Input, issue, switch, depart, purge, packet, report, answer, refused, done, none_without, program_stands}
+use Rattle.model.specs.Model.{Setting, Program, Call, Answer, Input, issue, switch, depart, purge, packet, report, refused, done, none_without, program_stands}
 use Rattle.processor.specs.declared.calls.Operation.TheVariants.{Issue, Switch, Purge, Depart, Packet, Report}
 use Rattle.processor.specs.Conditions.{refusal, unless}
 use Rattle.processor.specs.Operator.{loaded_from, loaded, condition_for, marked_with, marked}

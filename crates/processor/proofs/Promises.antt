@@ -8,7 +8,7 @@ use Rattle.flights.proofs.Scans.{length_mapped}
 use Rattle.messages.specs.Headers.{header_read, has_places}
 use Rattle.packets.specs.Messages.{Message, message_read}
 use Rattle.packets.specs.Amended.{amended}
-use Rattle.packets.specs.Verdict.{messages_of, all_pass, line_numbers, first_number}
+use Rattle.packets.specs.Verdict.{messages_of, all_pass, line_numbers}
 use Rattle.packets.specs.Laws.{Differs}
 use Rattle.packets.proofs.Alike.{verdict_own}
 use Rattle.packets.proofs.Others.{effect_own}

@@ -1,5 +1,5 @@
 -- A call that is refused changes nothing.
-use Rattle.std.proofs.Common.{◌≡◌, ℕ, Bool, true, false, cond, leb, List, [], map, length, Some, None, Option, refl, ap, ◌∙◌}
+use Rattle.std.proofs.Common.{ℕ, Bool, true, false, cond, leb, List, [], map, length, Some, None, Option, refl, ap, ◌∙◌}
 use Rattle.text.specs.Lines.{lines}
 use Rattle.calendar.specs.Identities.{Identity, identity_read}
 use Rattle.flights.specs.Counts.{some}

@@ -1,5 +1,5 @@
 -- What is written is what the outcome says.
-use Rattle.std.proofs.Common.{◌≡◌, ℕ, zero, suc, ◌+◌, ◌<◌, ◌≤◌, Bool, true, false, cond, ◌&&◌, eqb, ltb, List, [], ◌∷◌, map, length, Some, None, Option, sym, refl, ap, ◌∙◌, zero-add, arith}
+use Rattle.std.proofs.Common.{◌≡◌, ℕ, zero, suc, ◌<◌, true, false, cond, eqb, ltb, List, [], ◌∷◌, map, length, Some, None, Option, sym, refl, ap, ◌∙◌, zero-add, arith}
 use Rattle.std.proofs.lemmas.Bool.{and_left, ne_eqb}
 use Rattle.std.specs.List.{AllByRecursion as All}
 use Rattle.text.specs.Lines.{Line}
@@ -15,7 +15,7 @@ use Rattle.model.specs.declared.Condition.TheVariants.{NoProgram, On, Off}
 use Rattle.model.specs.Model.{Setting, Program, Input, Answer}
 use Rattle.processor.specs.declared.calls.Operation.TheVariants.{Packet}
 use Rattle.processor.specs.Conditions.{refusal}
-use Rattle.processor.specs.Packet.{Outcome, rejects, accepts, rejects_first, amended_program, judged, by_condition, by_user, by_lines, by_header, received, outcome, silent, answered}
+use Rattle.processor.specs.Packet.{rejects, accepts, rejects_first, amended_program, judged, by_condition, by_user, by_lines, by_header, received, outcome, silent, answered}
 
 written_as : (p : Program) (n e : ℕ) (buffer buffer' text : List ℕ) → Wrote buffer 0 text buffer' e → ◌≡◌ {A = Program × Answer} (p, record { number = n; second = e; buffer = Some buffer' }) (p, record { number = n; second = length text; buffer = Some (overlay buffer 0 text) })
 written_as p n e buffer buffer' text w =

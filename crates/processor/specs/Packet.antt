@@ -1,5 +1,5 @@
 -- A packet: its refusals in their order, and what it does.
-use Rattle.std.specs.Prelude.{ℕ, Bool, true, false, cond, not, List, [], ◌∷◌, map, length, Some, None, codes, Option, nat_lt}
+use Rattle.std.specs.Prelude.{ℕ, true, cond, List, [], ◌∷◌, map, length, Some, None, codes, Option, nat_lt}
 use Rattle.text.specs.Lines.{Line}
 use Rattle.messages.specs.Headers.{header_read, has_places}
 use Rattle.packets.specs.Messages.{Message, message_read}

@@ -5,7 +5,7 @@
 mod calls;
 mod edges;
 mod operator;
-mod packets;
+mod packet_call;
 mod reports;
 mod state;
 mod verdict;

@@ -1,8 +1,8 @@
-use Rattle.std.proofs.Common.{◌≡◌, ℕ, ◌<◌, ◌≤◌, List, map, length, vec_items, sym, refl, ap, ◌∙◌, subst, arith}
+use Rattle.std.proofs.Common.{ℕ, ◌<◌, List, map, length, vec_items, sym, refl, ap, ◌∙◌, subst, arith}
 use Rattle.std.specs.List.{AllByRecursion as All}
 use Rattle.calendar.specs.Days.{Days, days_of}
 use Rattle.flights.specs.Flights.{Flight}
-use Rattle.flights.specs.Kept.{flight_of, flights_of}
+use Rattle.flights.specs.Kept.{flight_of}
 use Rattle.flights.proofs.Scans.{length_mapped}
 use Rattle.messages.specs.Kept.{identifier_of}
 use Rattle.packets.specs.Amended.{amended}

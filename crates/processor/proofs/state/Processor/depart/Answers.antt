@@ -1,4 +1,4 @@
-use Rattle.std.proofs.Common.{◌≡◌, sym}
+use Rattle.std.proofs.Common.{sym}
 use Rattle.model.specs.Model.{answer, depart, setting_of}
 use Rattle.processor.specs.declared.calls.Operation.TheVariants.{Depart}
 use Rattle.processor.specs.Conditions.{refusal}

@@ -1,4 +1,4 @@
-use Rattle.std.proofs.Common.{◌≡◌, List, sym, refl, ap, ◌∙◌}
+use Rattle.std.proofs.Common.{sym, ap, ◌∙◌}
 use Rattle.text.specs.Lines.{line_of, lines_left}
 use Rattle.messages.specs.Kept.{identifier_of}
 use Rattle.plan.specs.Rows.{rows_of, numbers_of}

@@ -1,4 +1,4 @@
-use Rattle.std.proofs.Common.{◌≡◌, sym}
+use Rattle.std.proofs.Common.{sym}
 use Rattle.model.specs.Model.{answer, issue, setting_of}
 use Rattle.processor.specs.declared.calls.Operation.TheVariants.{Issue}
 use Rattle.processor.specs.Conditions.{refusal}

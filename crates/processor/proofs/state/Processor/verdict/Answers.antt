@@ -1,7 +1,7 @@
-use Rattle.std.proofs.Common.{◌≡◌, ℕ, ◌<◌, List, map, None, Option, sym, refl, ap, ◌∙◌, subst}
+use Rattle.std.proofs.Common.{◌≡◌, ℕ, ◌<◌, List, map, None, Option, sym, ap, ◌∙◌, subst}
 use Rattle.std.specs.List.{AllByRecursion as All}
 use Rattle.text.specs.Lines.{lines_left}
-use Rattle.calendar.specs.Days.{Days, days_of}
+use Rattle.calendar.specs.Days.{Days}
 use Rattle.flights.specs.Kept.{flights_of}
 use Rattle.register.specs.Users.{number_of as user_number}
 use Rattle.packets.specs.Messages.{Message, message_read}
