@@ -1,5 +1,5 @@
 ghost use Rattle.std.specs.Prelude.{◌≡◌, ◌+◌, ◌*◌, ◌<◌, ◌≤◌, List, [], ◌∷◌, ◌++◌, map, length};
-ghost use Rattle.std.specs.List.{AllByRecursion as All};
+ghost use Rattle.std.specs.List.{AllByRecursion};
 ghost use Rattle.text.specs.Lines.{line_of};
 ghost use Rattle.writing.specs.Overlay.{Wrote};
 ghost use Rattle.plan.specs.Rows.{row_of, number_of};
@@ -56,7 +56,7 @@ fn put_row_fault(out: &mut [u8], at: usize, row: &Row) -> usize
 
 /// Every faulty line, in order, each followed by its own number.
 fn put_faults(out: &mut [u8], at: usize, rows: &[Row]) -> usize
-    requires { (All (λ r. number_of r < 1000) rows.now) × (at + 169 * length rows.now ≤ length out.old) }
+    requires { (AllByRecursion (λ r. number_of r < 1000) rows.now) × (at + 169 * length rows.now ≤ length out.old) }
     ensures wrote { Wrote out.old at (fault_lines (map line_in (map row_of rows.now)) (map number_of rows.now)) out.new result }
 {
     let mut end = at;
@@ -68,7 +68,7 @@ fn put_faults(out: &mut [u8], at: usize, rows: &[Row]) -> usize
 
 /// The reply to a packet that is rejected for its message lines.
 pub fn put_line_faults(out: &mut [u8], id: &[u8], rows: &[Row]) -> usize
-    requires { (length id.now ≤ 16) × ((length rows.now ≤ 64) × ((All (λ r. number_of r < 1000) rows.now) × (40960 ≤ length out.old))) }
+    requires { (length id.now ≤ 16) × ((length rows.now ≤ 64) × ((AllByRecursion (λ r. number_of r < 1000) rows.now) × (40960 ≤ length out.old))) }
     ensures wrote { Wrote out.old 0 (rejected_lines id.now (map line_in (map row_of rows.now)) (map number_of rows.now)) out.new result }
 {
     let end = put_rejected(out, 0, id, count_faults(rows));

@@ -1,7 +1,7 @@
 -- Counts of slots: in lists of slots, in the table, and among one user's flights.
 use Rattle.std.proofs.Common.{◌≡◌, ℕ, ◌+◌, Bool, true, false, cond, not, ◌||◌, eqb, List, [], ◌∷◌, ◌++◌, map, is_some, Some, None, Option, sym, refl, ap, ◌∙◌, ap₂, arith}
 use Rattle.std.proofs.lemmas.Bool.{both_ways, or_parts, cond-true, cond-false, eqb-true}
-use Rattle.std.specs.List.{AllByRecursion as All}
+use Rattle.std.specs.List.{AllByRecursion}
 use Rattle.calendar.specs.Days.{Minute}
 use Rattle.calendar.specs.Identities.{carrier_of}
 use Rattle.element.specs.Slots.{Slot, same_slot}
@@ -74,7 +74,7 @@ slot_made s p u m a =
     created_slot m.kind m.ctd m.cta m.slot (is_absent m.erta) w.0 w.1 a.complete
 
 -- so the slots that an accepted packet's SC lines name are those that its messages make
-pub times_created : {S : Type 0} (s : Setting S) (p : Program) (u : ℕ) (x : Slot) (os : List (Option Message)) → All (Alone s p u) (messages_of os) →
+pub times_created : {S : Type 0} (s : Setting S) (p : Program) (u : ℕ) (x : Slot) (os : List (Option Message)) → AllByRecursion (Alone s p u) (messages_of os) →
     times x (slots_created os) ≡ count (makes x) (messages_of os)
 times_created s p u x [] a = refl
 times_created s p u x (None ∷ os) a = times_created s p u x os a
@@ -165,6 +165,6 @@ slot_kept true f = refl
 slot_kept false f = refl
 
 -- each flight of a table that stands has a slot or none as its type asks
-pub slots_fit : (e : Meaning) (fs : List Flight) → All (λ f. flight_stands e f ≡ true) fs → All (λ f. slot_fits_type f ≡ true) fs
+pub slots_fit : (e : Meaning) (fs : List Flight) → AllByRecursion (λ f. flight_stands e f ≡ true) fs → AllByRecursion (λ f. slot_fits_type f ≡ true) fs
 slots_fit e [] a = tt
 slots_fit e (f ∷ fs) a = (slot_fits e f a.0, slots_fit e fs a.1)

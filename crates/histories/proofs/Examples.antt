@@ -1,5 +1,5 @@
 -- The words of the laws, tried on small histories: by computing, and by the lemma on reading where a slot name is read.
-use Rattle.std.proofs.Common.{◌≡◌, ℕ, Bool, true, false, cond, eqb, List, [], ◌∷◌, ◌++◌, Some, None, codes, Option, sym, refl, ap, ◌∙◌}
+use Rattle.std.proofs.Common.{◌≡◌, ℕ, true, cond, eqb, List, [], ◌∷◌, ◌++◌, Some, None, codes, Option, sym, refl, ap}
 use Rattle.text.specs.Lines.{Line}
 use Rattle.calendar.specs.Days.{Days}
 use Rattle.element.specs.Slots.{Slot}
@@ -8,10 +8,10 @@ use Rattle.element.specs.Pointed.{airport_meaning}
 use Rattle.element.specs.PointedNames.{pointed_is}
 use Rattle.packets.specs.Given.{value}
 use Rattle.packets.specs.Messages.{real_slot}
-use Rattle.model.specs.Model.{Setting, Call, Input, input_of, issue, switch, purge, packet, report}
+use Rattle.model.specs.Model.{Setting, Call, issue, purge, packet}
 use Rattle.histories.specs.Runs.{Event}
-use Rattle.histories.specs.Slots.{created, with, is_in}
-use Rattle.histories.specs.Forces.{force_after, no_force, Force}
+use Rattle.histories.specs.Slots.{created, with}
+use Rattle.histories.specs.Forces.{force_after, no_force}
 use Rattle.histories.specs.Ledgers.{ledger, given}
 
 abbrev mpt : Meaning

@@ -1,10 +1,9 @@
 -- A history that is run turn by turn.
-use Rattle.std.proofs.Common.{◌≡◌, ℕ, suc, ◌+◌, ◌<◌, ◌≤◌, List, [], ◌∷◌, ◌++◌, map, length, get_or, take, drop, set, vec_items, Vec, sym, refl, ap, ◌∙◌, subst, ap₂, append_assoc, append-nil, arith, length-set}
+use Rattle.std.proofs.Common.{◌≡◌, ℕ, ◌+◌, ◌<◌, List, [], ◌∷◌, ◌++◌, map, length, get_or, take, drop, set, vec_items, sym, refl, ap, ◌∙◌, subst, ap₂, append_assoc, append-nil, arith, length-set}
 use Rattle.std.proofs.lemmas.List.{take_more, take_more_set, take_all, drop_more, drop-set-lt, drop_all}
 use Rattle.std.proofs.lemmas.List.Elements.{all_zip_more}
 use Rattle.std.specs.List.{AllZip}
-use Rattle.flights.proofs.Scans.{map_append, length_mapped}
-use Rattle.model.specs.declared.Condition.{Condition}
+use Rattle.flights.proofs.Scans.{map_append}
 use Rattle.model.specs.Model.{Setting, Program, Call, Answer}
 use Rattle.processor.specs.Step.{step}
 use Rattle.histories.specs.declared.turn.Call.{Call as KeptCall}

@@ -1,8 +1,8 @@
 -- A user sees only its own.
-use Rattle.std.proofs.Common.{◌≡◌, ℕ, zero, suc, Bool, true, false, cond, eqb, leb, List, [], ◌∷◌, ◌++◌, map, length, Some, None, Option, sym, refl, ap, ◌∙◌, subst, ap₂, arith}
+use Rattle.std.proofs.Common.{◌≡◌, ℕ, zero, suc, Bool, true, false, eqb, leb, List, [], ◌∷◌, ◌++◌, length, Some, None, Option, sym, refl, ap, ◌∙◌, subst, ap₂, arith}
 use Rattle.std.proofs.lemmas.Bool.{both_ways, cond-true, cond-false, eqb-true, eq-eqb}
-use Rattle.std.specs.List.{AllByRecursion as All}
-use Rattle.text.specs.Lines.{Line, lines}
+use Rattle.std.specs.List.{AllByRecursion}
+use Rattle.text.specs.Lines.{lines}
 use Rattle.calendar.specs.Days.{Days}
 use Rattle.element.specs.Slots.{Slot}
 use Rattle.flights.specs.Flights.{Flight}
@@ -11,7 +11,7 @@ use Rattle.packets.proofs.Deciding.{by_test}
 use Rattle.packets.proofs.Others.{same_self}
 use Rattle.model.specs.declared.Condition.{Condition}
 use Rattle.model.specs.declared.Condition.TheVariants.{NoProgram, On, Off}
-use Rattle.model.specs.Model.{Setting, Program, Call, Answer, Input, issue, switch, depart, purge, packet, report, program_stands}
+use Rattle.model.specs.Model.{Setting, Program, Call, Answer, issue, switch, depart, purge, packet, report, program_stands}
 use Rattle.processor.specs.declared.calls.Operation.TheVariants.{Issue}
 use Rattle.processor.specs.Conditions.{refusal, unless}
 use Rattle.processor.specs.Operator.{loaded_from, loaded}
@@ -19,9 +19,9 @@ use Rattle.processor.specs.Step.{step}
 use Rattle.processor.proofs.Refusing.{step_unchanged}
 use Rattle.processor.proofs.Lasting.{step_stands, report_changes_nothing}
 use Rattle.histories.specs.Runs.{fresh, events}
-use Rattle.histories.specs.Callers.{Caller, operator, caller_from, caller_of, is_of, shares, shared}
-use Rattle.histories.specs.Sights.{Sight, records_of, answer_for, sight_of, seen}
-use Rattle.histories.specs.Slots.{is_in, created}
+use Rattle.histories.specs.Callers.{caller_from, caller_of, is_of, shares, shared}
+use Rattle.histories.specs.Sights.{Sight, answer_for, sight_of, seen}
+use Rattle.histories.specs.Slots.{is_in}
 use Rattle.histories.specs.Forces.{Force, no_force, force_after, InForce, created_under}
 use Rattle.histories.specs.Laws.{AlikeFor, SeesOnlyItsOwn, SeesOnlyItsOwnFrom}
 use Rattle.histories.proofs.Passing.{packet_passed}
@@ -93,7 +93,7 @@ module _ {S : Type 0} (s : Setting S) (u : ℕ) where
         let known = known_shared (s.user sender) u h in
         let mine = known_own (s.user sender) u known in
         let n = packet_next s u but p gs a p_stands q_stands sender input buffer known
-        (λ on. subst (λ (d : Option Days). All (λ y. is_in y but ≡ false) (created_under s.element d input.lines)) (in_force_on p.condition p.days f on force) (k mine)) in
+        (λ on. subst (λ (d : Option Days). AllByRecursion (λ y. is_in y but ≡ false) (created_under s.element d input.lines)) (in_force_on p.condition p.days f on force) (k mine)) in
         record {
           answers = n.answers;
           programs = subst (λ (b : List Slot). AlikeFor s u b (step s p (packet sender input buffer)).0 (step s (again p gs) (packet sender input buffer)).0)

@@ -1,13 +1,13 @@
 -- A history that is run keeps the laws.
-use Rattle.std.proofs.Common.{◌≡◌, ℕ, true, List, map, sym, refl, ap, ◌∙◌, subst, ap₂}
+use Rattle.std.proofs.Common.{◌≡◌, true, List, map, sym, subst, ap₂}
 use Rattle.flights.specs.Flights.{Flight}
 use Rattle.model.specs.declared.Condition.{Condition}
 use Rattle.model.specs.declared.Condition.TheVariants.{NoProgram}
-use Rattle.model.specs.Model.{Setting, Program, Call, none_without}
+use Rattle.model.specs.Model.{Setting, Program, none_without}
 use Rattle.histories.specs.declared.turn.Turn.{Turn}
 use Rattle.histories.specs.Runs.{fresh, after, Event, events}
 use Rattle.histories.specs.Ledgers.{ledger, given}
-use Rattle.histories.specs.Laws.{OneHolder, EachSlotHasOneHolder}
+use Rattle.histories.specs.Laws.{OneHolder}
 use Rattle.histories.specs.Turns.{call_of}
 use Rattle.histories.specs.Running.{Ran, Lawful, numbered}
 use Rattle.histories.proofs.Ledger.{table_empty, one_holder}

@@ -1,23 +1,22 @@
 -- The slots that SC lines name, and the flights that hold slots.
-use Rattle.std.proofs.Common.{◌≡◌, ℕ, zero, suc, ◌+◌, ◌≤◌, Bool, true, false, List, [], ◌∷◌, ◌++◌, map, Some, None, Option, sym, refl, ap, ◌∙◌, arith}
+use Rattle.std.proofs.Common.{◌≡◌, ℕ, zero, suc, ◌+◌, ◌≤◌, true, false, List, [], ◌∷◌, ◌++◌, map, Some, None, Option, refl, ap, arith}
 use Rattle.std.proofs.lemmas.Bool.{and_parts}
-use Rattle.std.specs.List.{AllByRecursion as All}
+use Rattle.std.specs.List.{AllByRecursion}
 use Rattle.text.specs.Lines.{Line}
 use Rattle.calendar.specs.Days.{Minute}
 use Rattle.element.specs.Slots.{Slot, same_slot}
-use Rattle.element.specs.Meanings.{Meaning}
 use Rattle.flights.specs.Counts.{bump, some}
-use Rattle.flights.specs.Flights.{Flight, is_slot, holders}
+use Rattle.flights.specs.Flights.{is_slot, holders}
 use Rattle.flights.specs.Standing.{table_stands}
 use Rattle.messages.specs.declared.kind.MessageType.{MessageType}
 use Rattle.messages.specs.declared.kind.MessageType.TheVariants.{Fx, Fm, Sc}
 use Rattle.packets.specs.Given.{value}
-use Rattle.packets.specs.Messages.{Message, Seat, message_read, seat_from, seat_of, only_sc, create_of}
+use Rattle.packets.specs.Messages.{Message, Seat, message_read, seat_from, only_sc, create_of}
 use Rattle.packets.specs.StageOne.{of_seat, held}
 use Rattle.packets.specs.StageTwo.{count}
 use Rattle.packets.specs.Amended.{amended}
 use Rattle.packets.specs.Verdict.{messages_of, all_pass, line_numbers}
-use Rattle.packets.proofs.Table.{bump_adds, some_false, some_true, Rules, rules_of}
+use Rattle.packets.proofs.Table.{bump_adds, some_false, rules_of}
 use Rattle.packets.proofs.Accepted.{all_read, accepts}
 use Rattle.packets.proofs.Shifts.{slot_in, makes}
 use Rattle.packets.proofs.Effect.{effect}
@@ -64,18 +63,18 @@ makes_few x (Some m ∷ os) =
 
 -- where the slots that SCs name are held in both or in neither, 713 is the same
 held_one : (p q : Program) (but : List Slot) → ((x : Slot) → is_in x but ≡ false → some (holders x p.flights) ≡ some (holders x q.flights)) → (m : Message) (o : Option Seat) → create_of m ≡ o →
-    All (λ y. is_in y but ≡ false) (with (slot_created (Some m)) []) → of_seat (λ x. some (holders x.slot p.flights)) o ≡ of_seat (λ x. some (holders x.slot q.flights)) o
+    AllByRecursion (λ y. is_in y but ≡ false) (with (slot_created (Some m)) []) → of_seat (λ x. some (holders x.slot p.flights)) o ≡ of_seat (λ x. some (holders x.slot q.flights)) o
 held_one p q but h m None e a = refl
 held_one p q but h m (Some x) e a =
     let b = rw (created_of m x e) at a in
     h x.slot b.0
 
-all_with : (P : Slot → Type 0) (o : Option Slot) (ys : List Slot) → All P (with o ys) → All P (with o []) × All P ys
+all_with : (P : Slot → Type 0) (o : Option Slot) (ys : List Slot) → AllByRecursion P (with o ys) → AllByRecursion P (with o []) × AllByRecursion P ys
 all_with P None ys a = (tt, a)
 all_with P (Some y) ys a = ((a.0, tt), a.1)
 
 pub held_both : (p q : Program) (but : List Slot) → ((x : Slot) → is_in x but ≡ false → some (holders x p.flights) ≡ some (holders x q.flights)) → (os : List (Option Message)) →
-    All (λ y. is_in y but ≡ false) (slots_created os) → All (λ m. held p m ≡ held q m) (messages_of os)
+    AllByRecursion (λ y. is_in y but ≡ false) (slots_created os) → AllByRecursion (λ m. held p m ≡ held q m) (messages_of os)
 held_both p q but h [] a = tt
 held_both p q but h (None ∷ os) a = held_both p q but h os a
 held_both p q but h (Some m ∷ os) a =

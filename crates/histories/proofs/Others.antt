@@ -1,24 +1,19 @@
 -- A call of another leaves a program alike for the user, but for the slots that its SC lines name.
-use Rattle.std.proofs.Common.{◌≡◌, ℕ, zero, suc, ◌+◌, Bool, true, false, eqb, List, [], ◌∷◌, ◌++◌, map, Some, None, Option, sym, refl, ap, ◌∙◌, subst, arith}
+use Rattle.std.proofs.Common.{◌≡◌, ℕ, true, false, eqb, List, ◌++◌, map, sym, ap, ◌∙◌, subst, arith}
 use Rattle.text.specs.Lines.{Line}
 use Rattle.element.specs.Slots.{Slot}
 use Rattle.flights.specs.Counts.{some}
-use Rattle.flights.specs.Flights.{Flight, holders}
+use Rattle.flights.specs.Flights.{holders}
 use Rattle.packets.specs.Messages.{message_read}
 use Rattle.packets.specs.Amended.{amended}
 use Rattle.packets.specs.StageTwo.{count}
 use Rattle.packets.specs.Verdict.{messages_of}
 use Rattle.packets.proofs.Others.{all_alone, other_same}
 use Rattle.packets.proofs.Shifts.{makes}
-use Rattle.model.specs.Model.{Setting, Program, Call, Input, packet, report, program_stands}
-use Rattle.processor.specs.Packet.{amended_program}
-use Rattle.processor.specs.Step.{step}
-use Rattle.processor.proofs.Refusing.{step_unchanged}
-use Rattle.processor.proofs.Lasting.{report_changes_nothing}
-use Rattle.histories.specs.Callers.{caller_from, caller_of, is_of}
-use Rattle.histories.specs.Slots.{times, is_in, slots_created, created}
+use Rattle.model.specs.Model.{Setting, Program, Input, program_stands}
+use Rattle.histories.specs.Slots.{times, slots_created, created}
 use Rattle.histories.specs.Laws.{AlikeFor}
-use Rattle.histories.proofs.Passing.{Passed, packet_passed}
+use Rattle.histories.proofs.Passing.{Passed}
 use Rattle.histories.proofs.Making.{not_in, makes_few, holders_after}
 
 module _ {S : Type 0} (s : Setting S) (u : ℕ) (but : List Slot) (p q : Program) (a : AlikeFor s u but p q) where

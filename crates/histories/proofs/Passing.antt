@@ -1,5 +1,5 @@
 -- A packet that is answered 0 has passed all checks, and its flights are amended.
-use Rattle.std.proofs.Common.{◌≡◌, ℕ, Bool, true, false, cond, ltb, List, [], ◌∷◌, map, length, Some, None, Option, sym, refl, ap, ◌∙◌, arith}
+use Rattle.std.proofs.Common.{◌≡◌, ℕ, Bool, true, false, cond, ltb, List, [], ◌∷◌, map, length, Some, None, Option, sym, refl, ◌∙◌, arith}
 use Rattle.std.proofs.lemmas.Bool.{true≢false}
 use Rattle.text.specs.Lines.{Line}
 use Rattle.messages.specs.Headers.{header_read, has_places}
@@ -7,10 +7,10 @@ use Rattle.packets.specs.Messages.{message_read}
 use Rattle.packets.specs.Verdict.{messages_of, all_pass, line_numbers}
 use Rattle.model.specs.declared.Condition.{Condition}
 use Rattle.model.specs.declared.Condition.TheVariants.{NoProgram, On, Off}
-use Rattle.model.specs.Model.{Setting, Program, Input, Answer, packet}
+use Rattle.model.specs.Model.{Setting, Program, Input, packet}
 use Rattle.processor.specs.declared.calls.Operation.TheVariants.{Packet}
 use Rattle.processor.specs.Conditions.{refusal}
-use Rattle.processor.specs.Packet.{Outcome, silent, rejects, accepts, rejects_first, amended_program, judged, by_condition, by_user, by_header, received, outcome, answered}
+use Rattle.processor.specs.Packet.{Outcome, silent, rejects, accepts, amended_program, judged, by_condition, by_user, by_header, received, outcome, answered}
 use Rattle.processor.specs.Step.{step}
 use Rattle.processor.proofs.Saying.{none_passes}
 

@@ -1,7 +1,7 @@
 -- Flights that are the same to a user show the same to it.
-use Rattle.std.proofs.Common.{◌≡◌, ℕ, Bool, true, false, cond, ◌&&◌, List, [], ◌∷◌, ◌++◌, is_some, sym, refl, ap, ◌∙◌}
+use Rattle.std.proofs.Common.{◌≡◌, ℕ, Bool, false, cond, List, [], ◌∷◌, ◌++◌, is_some, sym, refl, ap, ◌∙◌}
 use Rattle.std.proofs.lemmas.Bool.{and_left, cond-false}
-use Rattle.std.specs.List.{AllZip, AllByRecursion as All}
+use Rattle.std.specs.List.{AllZip, AllByRecursion}
 use Rattle.calendar.specs.Days.{Days}
 use Rattle.calendar.specs.Identities.{Identity}
 use Rattle.element.specs.Meanings.{Meaning}
@@ -57,9 +57,9 @@ module _ {S : Type 0} (s : Setting S) (u : ℕ) where
   reports_own f q = and_left (owns s u f) (is_some f.control) q
 
   -- a packet whose lines pass alone names flights of the user only
-  unnamed_count : (i : Identity) (ms : List Message) → All (λ m. names m i ≡ false) ms → some (count (λ m. names m i) ms) ≡ false
+  unnamed_count : (i : Identity) (ms : List Message) → AllByRecursion (λ m. names m i ≡ false) ms → some (count (λ m. names m i) ms) ≡ false
   unnamed_count i [] a = refl
   unnamed_count i (m ∷ ms) a = ap (λ b. some (bump b (count (λ m. names m i) ms))) a.0 ∙ unnamed_count i ms a.1
 
-  pub named_own : (p : Program) (ms : List Message) → All (Alone s p u) ms → (f : Flight) → owns s u f ≡ false → is_named ms f ≡ false
+  pub named_own : (p : Program) (ms : List Message) → AllByRecursion (Alone s p u) ms → (f : Flight) → owns s u f ≡ false → is_named ms f ≡ false
   named_own p ms a f q = unnamed_count f.identity ms (none_named s p u ms f a q)

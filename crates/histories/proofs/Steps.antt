@@ -1,47 +1,39 @@
 -- One call, from two programs that are alike for a user.
-use Rattle.std.proofs.Common.{◌≡◌, ℕ, zero, suc, Bool, true, false, cond, ◌&&◌, eqb, ltb, leb, List, [], ◌∷◌, ◌++◌, map, length, Some, None, codes, Option, sym, refl, ap, ◌∙◌, subst, ap₂, arith}
-use Rattle.std.proofs.lemmas.Bool.{and_parts}
-use Rattle.std.specs.List.{AllZip, AllByRecursion as All}
+use Rattle.std.proofs.Common.{◌≡◌, ℕ, Bool, true, false, cond, ltb, leb, List, [], ◌∷◌, ◌++◌, map, length, Some, None, Option, sym, refl, ap, ◌∙◌, subst, ap₂, arith}
+use Rattle.std.specs.List.{AllZip, AllByRecursion}
 use Rattle.text.specs.Lines.{Line, lines}
-use Rattle.calendar.specs.Days.{Days}
 use Rattle.calendar.specs.Identities.{Identity, identity_read, same_identity}
 use Rattle.element.specs.Slots.{Slot}
 use Rattle.flights.specs.Counts.{bump, some}
-use Rattle.flights.specs.Flights.{Flight, is_slot, bearers, holders, departed_as}
+use Rattle.flights.specs.Flights.{Flight, bearers, holders, departed_as}
 use Rattle.lists.specs.Lists.{Reading, good, faulty, list_read}
 use Rattle.messages.specs.Headers.{header_read, has_places}
-use Rattle.packets.specs.Messages.{Message, message_read}
+use Rattle.packets.specs.Messages.{message_read}
 use Rattle.packets.specs.Amended.{amended}
 use Rattle.packets.specs.StageTwo.{count}
-use Rattle.packets.specs.Verdict.{messages_of, all_pass, line_numbers, first_number, is_named}
+use Rattle.packets.specs.Verdict.{messages_of, all_pass, line_numbers, is_named}
 use Rattle.packets.specs.Laws.{SameTo}
-use Rattle.packets.proofs.Deciding.{by_test}
-use Rattle.packets.proofs.Table.{bump_adds}
 use Rattle.packets.proofs.Alike.{same_owner, numbers_same}
-use Rattle.packets.proofs.Others.{all_alone, other_same, amended_same, same_self}
+use Rattle.packets.proofs.Others.{all_alone, amended_same, same_self}
 use Rattle.packets.proofs.Shifts.{makes}
 use Rattle.writing.specs.Overlay.{overlay}
 use Rattle.replies.specs.Openings.{accepted, list_opening}
-use Rattle.answering.specs.Replies.{accepted_list, reported_list, rejected_lines}
+use Rattle.answering.specs.Replies.{accepted_list, reported_list}
 use Rattle.model.specs.declared.Condition.{Condition}
 use Rattle.model.specs.declared.Condition.TheVariants.{NoProgram, On, Off}
 use Rattle.model.specs.Model.{Setting, Program, Call, Answer, Input, issue, switch, depart, purge, packet, report, refused, done, program_stands}
 use Rattle.processor.specs.declared.calls.Operation.TheVariants.{Issue, Switch, Purge, Depart, Packet, Report}
 use Rattle.processor.specs.Conditions.{refusal, unless}
-use Rattle.processor.specs.Operator.{loaded_from, loaded, condition_for, marked_with, marked}
-use Rattle.processor.specs.Packet.{Outcome, silent, rejects, accepts, rejects_first, amended_program, judged, by_condition, by_user, by_lines, by_header, received, outcome, answered}
+use Rattle.processor.specs.Operator.{loaded_from, condition_for, marked_with}
+use Rattle.processor.specs.Packet.{Outcome, silent, rejects, accepts, judged, by_condition, by_user, by_header, received, outcome, answered}
 use Rattle.processor.specs.Report.{is_request, reports, report_for, report_in, report_to, report_outcome}
 use Rattle.processor.specs.Step.{step}
-use Rattle.processor.specs.Laws.{message_lines}
-use Rattle.processor.proofs.Refusing.{step_unchanged}
-use Rattle.processor.proofs.Lasting.{report_changes_nothing}
 use Rattle.histories.specs.Callers.{operator, caller_from, caller_of}
 use Rattle.histories.specs.Slots.{is_in, slots_created, created}
 use Rattle.histories.specs.Laws.{AlikeFor}
-use Rattle.histories.proofs.Passing.{packet_passed}
 use Rattle.histories.proofs.Showing.{rows_same, reports_own, named_own}
 use Rattle.histories.proofs.Counting.{identity_kept, slot_kept, held_stays}
-use Rattle.histories.proofs.Making.{not_in, makes_few, held_both, holders_after, some_more}
+use Rattle.histories.proofs.Making.{held_both, holders_after, some_more}
 
 -- the program with other flights
 abbrev pub again : Program → List Flight → Program
@@ -200,7 +192,7 @@ module _ {S : Type 0} (s : Setting S) (u : ℕ) where
                 ∙ (some_more (holders x p.flights) (holders x gs) (count (makes x) ms) (a.held x h) ∙ sym (ap some (holders_after s q u ls q_stands q_pass x)));
           }
 
-      judged_rel : (id : List ℕ) (ls : List Line) → All (λ y. is_in y but ≡ false) (slots_created (map (message_read s.element p.days) ls)) →
+      judged_rel : (id : List ℕ) (ls : List Line) → AllByRecursion (λ y. is_in y but ≡ false) (slots_created (map (message_read s.element p.days) ls)) →
           let os = map (message_read s.element p.days) ls in Rel (judged s p id ls os (line_numbers s p u os)) (judged s q id ls os (line_numbers s q u os))
       unfolding accepted_list
       judged_rel id ls clear =
@@ -218,31 +210,31 @@ module _ {S : Type 0} (s : Setting S) (u : ℕ) where
           ))
           (λ fail. (refl, refl)))
 
-      condition_rel : (id : List ℕ) (first : Line) (ls : List Line) (c : Condition) → p.condition ≡ c → (c ≡ On → All (λ y. is_in y but ≡ false) (slots_created (map (message_read s.element p.days) ls))) →
+      condition_rel : (id : List ℕ) (first : Line) (ls : List Line) (c : Condition) → p.condition ≡ c → (c ≡ On → AllByRecursion (λ y. is_in y but ≡ false) (slots_created (map (message_read s.element p.days) ls))) →
           Rel (by_condition s p id first ls u (refusal c Packet)) (by_condition s q id first ls u (refusal c Packet))
       condition_rel id first ls NoProgram e clear = (refl, refl)
       condition_rel id first ls On e clear = judged_rel id ls (clear refl)
       condition_rel id first ls Off e clear = (refl, refl)
 
-      user_rel : (id : List ℕ) (first : Line) (ls : List Line) (o : Option ℕ) → o ≡ Some u → (p.condition ≡ On → All (λ y. is_in y but ≡ false) (slots_created (map (message_read s.element p.days) ls))) →
+      user_rel : (id : List ℕ) (first : Line) (ls : List Line) (o : Option ℕ) → o ≡ Some u → (p.condition ≡ On → AllByRecursion (λ y. is_in y but ≡ false) (slots_created (map (message_read s.element p.days) ls))) →
           Rel (by_user s p id first ls o) (by_user s q id first ls o)
       user_rel id first ls None e clear = (refl, refl)
       user_rel id first ls (Some v) e clear =
           let same : v ≡ u = cc e in
           subst (λ (w : ℕ). Rel (by_user s p id first ls (Some w)) (by_user s q id first ls (Some w))) (sym same) (condition_rel id first ls p.condition refl clear)
 
-      header_rel : (sender : S) (first : Line) (ls : List Line) (o : Option (List ℕ)) → s.user sender ≡ Some u → (p.condition ≡ On → All (λ y. is_in y but ≡ false) (slots_created (map (message_read s.element p.days) ls))) →
+      header_rel : (sender : S) (first : Line) (ls : List Line) (o : Option (List ℕ)) → s.user sender ≡ Some u → (p.condition ≡ On → AllByRecursion (λ y. is_in y but ≡ false) (slots_created (map (message_read s.element p.days) ls))) →
           Rel (by_header s p sender first ls o) (by_header s q sender first ls o)
       header_rel sender first ls None known clear = (refl, refl)
       header_rel sender first ls (Some id) known clear =
           either_rel (has_places ls) _ _ _ _ (λ h. user_rel id first ls (s.user sender) known clear) (λ h. (refl, refl))
 
-      received_rel : (sender : S) (ls : List Line) → s.user sender ≡ Some u → (p.condition ≡ On → All (λ y. is_in y but ≡ false) (created s.element p.days ls)) →
+      received_rel : (sender : S) (ls : List Line) → s.user sender ≡ Some u → (p.condition ≡ On → AllByRecursion (λ y. is_in y but ≡ false) (created s.element p.days ls)) →
           Rel (received s p sender ls) (received s q sender ls)
       received_rel sender [] known clear = (refl, refl)
       received_rel sender (first ∷ ls) known clear = header_rel sender first ls (header_read first) known clear
 
-      pub packet_next : (sender : S) (input : Input) (buffer : List ℕ) → s.user sender ≡ Some u → (p.condition ≡ On → All (λ y. is_in y but ≡ false) (created s.element p.days input.lines)) →
+      pub packet_next : (sender : S) (input : Input) (buffer : List ℕ) → s.user sender ≡ Some u → (p.condition ≡ On → AllByRecursion (λ y. is_in y but ≡ false) (created s.element p.days input.lines)) →
           Next but (step s p (packet sender input buffer)) (step s q (packet sender input buffer))
       packet_next sender input buffer known clear =
           answered_next buffer (outcome s p sender input (length buffer)) (outcome s q sender input (length buffer))

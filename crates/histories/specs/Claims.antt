@@ -1,6 +1,6 @@
 -- The slots that SC lines name in a history, whether or not their packets are accepted.
 use Rattle.std.specs.Prelude.{◌≡◌, ℕ, true, false, List, [], ◌∷◌, ◌++◌, map}
-use Rattle.std.specs.List.{AllByRecursion as All}
+use Rattle.std.specs.List.{AllByRecursion}
 use Rattle.element.specs.Slots.{Slot, same_slot}
 use Rattle.model.specs.Model.{Setting, Program, Call, issue, switch, depart, purge, packet, report}
 use Rattle.histories.specs.Runs.{Event, events}
@@ -35,7 +35,7 @@ abbrev pub Apart : ℕ → Claim → Claim → Type 0
 Apart u a b = is_of a.by u ≡ true → is_of b.by u ≡ false → a.issue ≡ b.issue → same_slot a.slot b.slot ≡ false
 
 abbrev pub AllApart : ℕ → List Claim → Type 0
-AllApart u cs = All (λ a. All (Apart u a) cs) cs
+AllApart u cs = AllByRecursion (λ a. AllByRecursion (Apart u a) cs) cs
 
 -- no SC line of another user names a slot that an SC line of the user names, under one issue: in a history from a program with
 -- this issue in force, under which others have named these slots already

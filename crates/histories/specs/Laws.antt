@@ -1,14 +1,14 @@
 -- The two laws over whole histories.
-use Rattle.std.specs.Prelude.{◌≡◌, ℕ, Bool, true, false, List, []}
+use Rattle.std.specs.Prelude.{◌≡◌, ℕ, true, false, List, []}
 use Rattle.std.specs.List.{AllZip}
 use Rattle.calendar.specs.Days.{Days}
 use Rattle.element.specs.Slots.{Slot}
 use Rattle.flights.specs.Counts.{some}
-use Rattle.flights.specs.Flights.{Flight, holders}
+use Rattle.flights.specs.Flights.{holders}
 use Rattle.packets.specs.Laws.{SameTo}
 use Rattle.model.specs.declared.Condition.TheVariants.{NoProgram}
 use Rattle.model.specs.Model.{Setting, Program, Call, program_stands}
-use Rattle.histories.specs.Runs.{fresh, after, Event, events}
+use Rattle.histories.specs.Runs.{fresh, after, events}
 use Rattle.histories.specs.Callers.{shared}
 use Rattle.histories.specs.Sights.{records_of, seen}
 use Rattle.histories.specs.Slots.{is_in}

@@ -1,5 +1,5 @@
 -- What a user sees of a history.
-use Rattle.std.specs.Prelude.{ℕ, Bool, cond, List, [], ◌∷◌, Some, None, Option}
+use Rattle.std.specs.Prelude.{ℕ, cond, List, [], ◌∷◌, Some, None, Option}
 use Rattle.flights.specs.Flights.{Flight}
 use Rattle.packets.specs.StageOne.{owns}
 use Rattle.model.specs.Model.{Setting, Program, Call, Answer}

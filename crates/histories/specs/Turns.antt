@@ -1,5 +1,5 @@
 -- Turns of the code, as the definitions see them.
-use Rattle.std.specs.Prelude.{ℕ, List, map, Some, None, vec_items, Option}
+use Rattle.std.specs.Prelude.{ℕ, List, Some, None, vec_items, Option}
 use Rattle.model.specs.Model.{Call, Answer, input_of, issue, switch, depart, purge, packet, report}
 use Rattle.histories.specs.declared.turn.Call.{Call as KeptCall}
 use Rattle.histories.specs.declared.turn.Call.TheVariants.{Issue, Switch, Depart, Purge, Packet, Report}

@@ -2,7 +2,7 @@
 use Rattle.std.proofs.Common.{◌≡◌, ℕ, Bool, true, false, cond, not, eqb, List, [], ◌∷◌, ◌++◌, map, is_some, Some, None, Option, sym, refl, ap, ◌∙◌, arith}
 use Rattle.std.proofs.lemmas.Bool.{both_ways, and_parts, cond-true, cond-false, eqb-true}
 use Rattle.std.specs.Option.{option_map}
-use Rattle.std.specs.List.{AllByRecursion as All}
+use Rattle.std.specs.List.{AllByRecursion}
 use Rattle.text.specs.Bytes.{each}
 use Rattle.text.specs.Lines.{Line, fields}
 use Rattle.calendar.specs.Days.{Days, Minute}
@@ -155,7 +155,7 @@ taken_written (w ∷ id ∷ dep ∷ arr ∷ []) = tt
 taken_written (w ∷ id ∷ dep ∷ arr ∷ date ∷ rest) =
     taken_cond _ _ (taken_from (type_read w) (tags_from no_tags rest) id dep arr date)
 
-reads_of : (e : Meaning) (d : Days) (o : Option Written) → Taken o → All Reads (messages_of (option_map (message_of e d) o ∷ []))
+reads_of : (e : Meaning) (d : Days) (o : Option Written) → Taken o → AllByRecursion Reads (messages_of (option_map (message_of e d) o ∷ []))
 reads_of e d None h = tt
 reads_of e d (Some w) h = (
   record {
@@ -166,11 +166,11 @@ reads_of e d (Some w) h = (
   tt,
 )
 
-reads_more : (o : Option Message) (os : List (Option Message)) → All Reads (messages_of (o ∷ [])) → All Reads (messages_of os) → All Reads (messages_of (o ∷ os))
+reads_more : (o : Option Message) (os : List (Option Message)) → AllByRecursion Reads (messages_of (o ∷ [])) → AllByRecursion Reads (messages_of os) → AllByRecursion Reads (messages_of (o ∷ os))
 reads_more None os h k = k
 reads_more (Some m) os h k = (h.0, k)
 
-pub all_read : (e : Meaning) (d : Days) (ls : List Line) → All Reads (messages_of (map (message_read e d) ls))
+pub all_read : (e : Meaning) (d : Days) (ls : List Line) → AllByRecursion Reads (messages_of (map (message_read e d) ls))
 all_read e d [] = tt
 all_read e d (l ∷ ls) =
     reads_more (message_read e d l) _
@@ -189,14 +189,14 @@ Accepts s p u all before (m ∷ ms) = Accepted s p u all before m × Accepts s p
 
 module _ {S : Type 0} (s : Setting S) (p : Program) (u : ℕ) where
   -- the messages of lines that pass stage one
-  pub pass_alone : (os : List (Option Message)) → all_pass (map (fault_alone s p u) os) ≡ true → All (Alone s p u) (messages_of os)
+  pub pass_alone : (os : List (Option Message)) → all_pass (map (fault_alone s p u) os) ≡ true → AllByRecursion (Alone s p u) (messages_of os)
   pass_alone [] h = tt
   pass_alone (None ∷ os) h = absurd (both_ways false refl h)
   pass_alone (Some m ∷ os) h =
       let q = and_parts (eqb (first_of (stage_one s p u m)) 0) _ h in
       (alone_from s p u m (eqb-true _ 0 q.0), pass_alone os q.1)
 
-  accepts_from : (all before ms : List Message) → All (Alone s p u) ms → All Reads ms → all_pass (faults_together s p u all before ms) ≡ true → Accepts s p u all before ms
+  accepts_from : (all before ms : List Message) → AllByRecursion (Alone s p u) ms → AllByRecursion Reads ms → all_pass (faults_together s p u all before ms) ≡ true → Accepts s p u all before ms
   accepts_from all before [] a r h = tt
   accepts_from all before (m ∷ ms) a r h =
       let q = and_parts (eqb (first_of (stage_two s p u all before m)) 0) _ h in (
@@ -205,13 +205,13 @@ module _ {S : Type 0} (s : Setting S) (p : Program) (u : ℕ) where
       )
 
   -- the messages of a packet whose lines all pass
-  pub accepts : (os : List (Option Message)) → All Reads (messages_of os) → all_pass (line_numbers s p u os) ≡ true → Accepts s p u (messages_of os) [] (messages_of os)
+  pub accepts : (os : List (Option Message)) → AllByRecursion Reads (messages_of os) → all_pass (line_numbers s p u os) ≡ true → Accepts s p u (messages_of os) [] (messages_of os)
   accepts os r h =
       let one = all_pass (map (fault_alone s p u) os) in
       by_test one
       (λ e. accepts_from (messages_of os) [] (messages_of os) (pass_alone os e) r (ap all_pass (sym (cond-true one (faults_together s p u (messages_of os) [] (messages_of os)) (map (fault_alone s p u) os) e)) ∙ h))
       (λ e. absurd (both_ways one e (ap all_pass (sym (cond-false one (faults_together s p u (messages_of os) [] (messages_of os)) (map (fault_alone s p u) os) e)) ∙ h)))
 
-  pub accepts_alone : (all before ms : List Message) → Accepts s p u all before ms → All (λ m. Alone s p u m × Reads m) ms
+  pub accepts_alone : (all before ms : List Message) → Accepts s p u all before ms → AllByRecursion (λ m. Alone s p u m × Reads m) ms
   accepts_alone all before [] a = tt
   accepts_alone all before (m ∷ ms) a = ((a.0.alone, a.0.read), accepts_alone all (before ++ m ∷ []) ms a.1)

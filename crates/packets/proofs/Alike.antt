@@ -1,7 +1,7 @@
 -- The verdict on a packet is the same for flights that are alike to its user.
 use Rattle.std.proofs.Common.{◌≡◌, ℕ, Bool, false, cond, not, ◌&&◌, ◌||◌, List, [], ◌∷◌, ◌++◌, map, is_some, Some, None, Option, sym, refl, ap, ◌∙◌, ap₂}
 use Rattle.std.proofs.lemmas.Bool.{cond-true, cond-false, and_left}
-use Rattle.std.specs.List.{AllZip, AllByRecursion as All}
+use Rattle.std.specs.List.{AllZip, AllByRecursion}
 use Rattle.calendar.specs.Identities.{Identity, same_identity, carrier_of}
 use Rattle.element.specs.Slots.{Slot}
 use Rattle.flights.specs.Counts.{some}
@@ -107,7 +107,7 @@ module _ {S : Type 0} (s : Setting S) (u : ℕ) where
     alone_same m h =
         one_by_same m (flight_named p m) (flight_named q m) (held p m) (held q m) (named_same m.identity p.flights q.flights a) h
 
-    all_alone_same : (os : List (Option Message)) → All (λ m. held p m ≡ held q m) (messages_of os) → map (fault_alone s p u) os ≡ map (fault_alone s q u) os
+    all_alone_same : (os : List (Option Message)) → AllByRecursion (λ m. held p m ≡ held q m) (messages_of os) → map (fault_alone s p u) os ≡ map (fault_alone s q u) os
     all_alone_same [] h = refl
     all_alone_same (None ∷ os) h = ap (λ (ns : List ℕ). 701 ∷ ns) (all_alone_same os h)
     all_alone_same (Some m ∷ os) h = ap₂ (λ (n : ℕ) (ns : List ℕ). n ∷ ns) (alone_same m h.0) (all_alone_same os h.1)
@@ -123,11 +123,11 @@ module _ {S : Type 0} (s : Setting S) (u : ℕ) where
     together_same all before (m ∷ ms) = ap₂ (λ (n : ℕ) (ns : List ℕ). n ∷ ns) (two_same all before m) (together_same all (before ++ m ∷ []) ms)
 
     -- it is enough that the slots of the packet's SCs are held in both or in neither
-    pub numbers_same : (os : List (Option Message)) → All (λ m. held p m ≡ held q m) (messages_of os) → line_numbers s p u os ≡ line_numbers s q u os
+    pub numbers_same : (os : List (Option Message)) → AllByRecursion (λ m. held p m ≡ held q m) (messages_of os) → line_numbers s p u os ≡ line_numbers s q u os
     numbers_same os h =
         ap₂ (λ (one two : List ℕ). cond (all_pass one) two one) (all_alone_same os h) (together_same (messages_of os) [] (messages_of os))
 
-held_same : (p q : Program) → ((x : Slot) → some (holders x p.flights) ≡ some (holders x q.flights)) → (ms : List Message) → All (λ m. held p m ≡ held q m) ms
+held_same : (p q : Program) → ((x : Slot) → some (holders x p.flights) ≡ some (holders x q.flights)) → (ms : List Message) → AllByRecursion (λ m. held p m ≡ held q m) ms
 held_same p q h [] = tt
 held_same p q h (m ∷ ms) =
     let e : ◌≡◌ {A = Slot → Bool} (λ x. some (holders x p.flights)) (λ x. some (holders x q.flights)) = (λ i x. h x i) in

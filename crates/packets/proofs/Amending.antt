@@ -1,7 +1,7 @@
 -- A flight keeps its own rules where an accepted packet amends it.
 use Rattle.std.proofs.Common.{◌≡◌, ℕ, ◌+◌, ◌≤◌, Bool, true, false, cond, not, ◌&&◌, ◌||◌, eqb, ltb, ◌⊎◌, List, [], ◌∷◌, map, is_some, Some, None, Option, sym, refl, ap, ◌∙◌, inl, inr, ⊎_elim, arith}
 use Rattle.std.proofs.lemmas.Bool.{both_ways, and_parts, and_from, or_parts, or_right, cond-true, cond-false, not-false, not_from_false, eqb-true, le-leb}
-use Rattle.std.specs.List.{AllByRecursion as All}
+use Rattle.std.specs.List.{AllByRecursion}
 use Rattle.calendar.specs.Days.{Minute}
 use Rattle.calendar.specs.Identities.{Identity, same_identity}
 use Rattle.element.specs.Slots.{Slot, marks_pop_up}
@@ -39,7 +39,7 @@ found_identity i (g ∷ gs) f e =
     ap (λ (x : Flight). x.identity) (sym same) ∙ identity_true g.identity i q)
     (λ q. found_identity i gs f (sym (cond-false (same_identity g.identity i) (Some g) (find i gs) q) ∙ e))
 
-pub found_holds : (P : Flight → Type 0) (i : Identity) (fs : List Flight) (f : Flight) → find i fs ≡ Some f → All P fs → P f
+pub found_holds : (P : Flight → Type 0) (i : Identity) (fs : List Flight) (f : Flight) → find i fs ≡ Some f → AllByRecursion P fs → P f
 found_holds P i [] f e a = let z : ◌≡◌ {A = ℕ} 0 1 = cc in absurd (omega arith)
 found_holds P i (g ∷ gs) f e a =
     by_test (same_identity g.identity i)
@@ -70,11 +70,11 @@ pub find_head : (f : Flight) (fs : List Flight) → find f.identity (f ∷ fs) �
 find_head f fs = cond-true (same_identity f.identity f.identity) (Some f) (find f.identity fs) (identity_refl f.identity)
 
 -- each flight is found by its identity
-find_tails : (g : Flight) (gs hs : List Flight) → Distinct (g ∷ gs) → All (λ f. find f.identity gs ≡ Some f) hs → All (λ f. find f.identity (g ∷ gs) ≡ Some f) hs
+find_tails : (g : Flight) (gs hs : List Flight) → Distinct (g ∷ gs) → AllByRecursion (λ f. find f.identity gs ≡ Some f) hs → AllByRecursion (λ f. find f.identity (g ∷ gs) ≡ Some f) hs
 find_tails g gs [] d a = tt
 find_tails g gs (h ∷ hs) d a = (find_tail g gs h.identity h d a.0, find_tails g gs hs d a.1)
 
-pub all_found : (fs : List Flight) → Distinct fs → All (λ f. find f.identity fs ≡ Some f) fs
+pub all_found : (fs : List Flight) → Distinct fs → AllByRecursion (λ f. find f.identity fs ≡ Some f) fs
 all_found [] d = tt
 all_found (f ∷ fs) d = (find_head f fs, find_tails f fs fs d (all_found fs (distinct_tail f fs d)))
 
@@ -200,7 +200,7 @@ amended_parts e (Some x) cancel erta f h fit k =
 
 -- what the first message that names the flight gives is what some message that names it gives
 first_from : {X : Type 0} (P : X → Type 0) (i : Identity) (gives : Message → Option X) (ms : List Message) →
-    All (λ m. names m i ≡ true → (x : X) → gives m ≡ Some x → P x) ms → (x : X) → first_for i gives ms ≡ Some x → P x
+    AllByRecursion (λ m. names m i ≡ true → (x : X) → gives m ≡ Some x → P x) ms → (x : X) → first_for i gives ms ≡ Some x → P x
 first_from P i gives [] a x e = let z : ◌≡◌ {A = ℕ} 0 1 = cc in absurd (omega arith)
 first_from {X} P i gives (m ∷ ms) a x e =
     by_test (names m i)
@@ -265,18 +265,18 @@ module _ {S : Type 0} (s : Setting S) (p : Program) (u : ℕ) where
           let c' : None ≡ Some b = sym (ap (λ k. cancel_from k m.hold) q) ∙ c in
           let z : ◌≡◌ {A = ℕ} 0 1 = cc in absurd (omega arith)
 
-  all_fit : (i : Identity) (f : Flight) (ms : List Message) → find i p.flights ≡ Some f → All (λ m. Alone s p u m × Reads m) ms →
-      All (λ m. names m i ≡ true → (x : Seat) → seat_of m ≡ Some x → Fits x) ms
+  all_fit : (i : Identity) (f : Flight) (ms : List Message) → find i p.flights ≡ Some f → AllByRecursion (λ m. Alone s p u m × Reads m) ms →
+      AllByRecursion (λ m. names m i ≡ true → (x : Seat) → seat_of m ≡ Some x → Fits x) ms
   all_fit i f [] e a = tt
   all_fit i f (m ∷ ms) e a = ((λ n x h. seat_fits m f x a.0.0 a.0.1 (flight_named_fact p m i f n e) h), all_fit i f ms e a.1)
 
-  all_hold : (i : Identity) (f : Flight) (ms : List Message) → slot_fits_type f ≡ true → find i p.flights ≡ Some f → All (λ m. Alone s p u m × Reads m) ms →
-      All (λ m. names m i ≡ true → (b : Bool) → cancel_of m ≡ Some b → b ≡ true → is_some f.slot ≡ true) ms
+  all_hold : (i : Identity) (f : Flight) (ms : List Message) → slot_fits_type f ≡ true → find i p.flights ≡ Some f → AllByRecursion (λ m. Alone s p u m × Reads m) ms →
+      AllByRecursion (λ m. names m i ≡ true → (b : Bool) → cancel_of m ≡ Some b → b ≡ true → is_some f.slot ≡ true) ms
   all_hold i f [] h e a = tt
   all_hold i f (m ∷ ms) h e a = ((λ n b c t. hold_fits_fact m f b a.0.0 h (flight_named_fact p m i f n e) c t), all_hold i f ms h e a.1)
 
   -- the flight as the messages leave it keeps its own rules
-  pub amended_stands : (e : Meaning) (ms : List Message) (f : Flight) → All (λ m. Alone s p u m × Reads m) ms →
+  pub amended_stands : (e : Meaning) (ms : List Message) (f : Flight) → AllByRecursion (λ m. Alone s p u m × Reads m) ms →
       find f.identity p.flights ≡ Some f → flight_stands e f ≡ true → flight_stands e (amended ms f) ≡ true
   amended_stands e ms f a found h =
       let i = f.identity in
@@ -285,7 +285,7 @@ module _ {S : Type 0} (s : Setting S) (p : Program) (u : ℕ) where
       (first_from (λ b. b ≡ true → is_some f.slot ≡ true) i cancel_of ms (all_hold i f ms (slot_fits e f h) found a))
 
   -- and so do all flights
-  pub all_amended : (e : Meaning) (ms : List Message) (gs : List Flight) → All (λ m. Alone s p u m × Reads m) ms →
-      All (λ f. find f.identity p.flights ≡ Some f) gs → All (λ f. flight_stands e f ≡ true) gs → All (λ f. flight_stands e f ≡ true) (map (amended ms) gs)
+  pub all_amended : (e : Meaning) (ms : List Message) (gs : List Flight) → AllByRecursion (λ m. Alone s p u m × Reads m) ms →
+      AllByRecursion (λ f. find f.identity p.flights ≡ Some f) gs → AllByRecursion (λ f. flight_stands e f ≡ true) gs → AllByRecursion (λ f. flight_stands e f ≡ true) (map (amended ms) gs)
   all_amended e ms [] a found h = tt
   all_amended e ms (f ∷ fs) a found h = (amended_stands e ms f a found.0 h.0, all_amended e ms fs a found.1 h.1)

@@ -1,7 +1,7 @@
 -- What an accepted packet makes of the slots: its moves permute them, and each SC adds one.
 use Rattle.std.proofs.Common.{◌≡◌, ℕ, zero, suc, ◌+◌, ◌≤◌, Bool, true, false, not, ◌&&◌, List, [], ◌∷◌, ◌++◌, map, length, is_some, Some, None, Option, sym, refl, ap, ◌∙◌, ⊎_elim, arith}
 use Rattle.std.proofs.lemmas.Bool.{both_ways, and_from, or_left, not-false}
-use Rattle.std.specs.List.{AllByRecursion as All}
+use Rattle.std.specs.List.{AllByRecursion}
 use Rattle.calendar.specs.Identities.{Identity}
 use Rattle.element.specs.Slots.{Slot, same_slot}
 use Rattle.flights.specs.Counts.{bump, some}
@@ -33,7 +33,7 @@ module _ {S : Type 0} (s : Setting S) (p : Program) (u : ℕ) where
 
   -- a flight that an earlier message seats is seated by none later
   later_unseated : (all : List Message) (i : Identity) (f : Flight) → find i p.flights ≡ Some f → (before ms : List Message) →
-      1 ≤ count (typed (seated_by f) i) before → Accepts s p u all before ms → All (λ m. names m i ≡ true → seat_of m ≡ None) ms
+      1 ≤ count (typed (seated_by f) i) before → Accepts s p u all before ms → AllByRecursion (λ m. names m i ≡ true → seat_of m ≡ None) ms
   later_unseated all i f e before [] h a = tt
   later_unseated all i f e before (m ∷ ms) h a =
       let b = count_after (typed (seated_by f) i) before m in
@@ -106,7 +106,7 @@ module _ {S : Type 0} (s : Setting S) (p : Program) (u : ℕ) where
   not_move : (m : Message) → m.kind ≡ Sc → move_of m ≡ None
   not_move m k = ap (λ k. only_fm k (seat_of m)) k
 
-  module _ (distinct : Distinct p.flights) (fit : All (λ f. slot_fits_type f ≡ true) p.flights) where
+  module _ (distinct : Distinct p.flights) (fit : AllByRecursion (λ f. slot_fits_type f ≡ true) p.flights) where
     -- how many hold a slot after the messages
     moved_count : (all : List Message) (x : Slot) (before ms : List Message) → Accepts s p u all before ms →
         holders x (map (amended ms) p.flights) + occurs same_slot x (origins p.flights ms) ≡ holders x p.flights + occurs same_slot x (targets ms) + count (makes x) ms
@@ -243,7 +243,7 @@ module _ {S : Type 0} (s : Setting S) (p : Program) (u : ℕ) where
           some_false _ (ap (λ z. some (holders z p.flights)) (sym (slot_true y.slot x h)) ∙ k)
 
   -- after an accepted packet each slot has as many holders as before, and one more for each SC of it
-  pub effect : (ms : List Message) → Distinct p.flights → All (λ f. slot_fits_type f ≡ true) p.flights → Accepts s p u ms [] ms → (x : Slot) →
+  pub effect : (ms : List Message) → Distinct p.flights → AllByRecursion (λ f. slot_fits_type f ≡ true) p.flights → Accepts s p u ms [] ms → (x : Slot) →
       holders x (map (amended ms) p.flights) ≡ holders x p.flights + count (makes x) ms
   effect ms d fit a x =
       let less : (z : Slot) → occurs same_slot z (targets ms) ≤ occurs same_slot z (origins p.flights ms) =

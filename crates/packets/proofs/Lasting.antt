@@ -1,7 +1,7 @@
 -- The standing rules last over an accepted packet.
 use Rattle.std.proofs.Common.{◌≡◌, ℕ, zero, suc, ◌+◌, ◌≤◌, true, List, [], ◌∷◌, map, length, refl, ap, arith}
 use Rattle.std.proofs.lemmas.Bool.{and_parts, and_from}
-use Rattle.std.specs.List.{AllByRecursion as All}
+use Rattle.std.specs.List.{AllByRecursion}
 use Rattle.calendar.specs.Identities.{Identity, same_identity}
 use Rattle.element.specs.Meanings.{Meaning}
 use Rattle.flights.specs.Counts.{bump}
@@ -36,7 +36,7 @@ none_amended NoProgram ms (f ∷ fs) h = h
 none_amended On ms fs h = refl
 none_amended Off ms fs h = refl
 
-slots_fit : (e : Meaning) (fs : List Flight) → All (λ f. flight_stands e f ≡ true) fs → All (λ f. slot_fits_type f ≡ true) fs
+slots_fit : (e : Meaning) (fs : List Flight) → AllByRecursion (λ f. flight_stands e f ≡ true) fs → AllByRecursion (λ f. slot_fits_type f ≡ true) fs
 slots_fit e [] a = tt
 slots_fit e (f ∷ fs) a = (slot_fits e f a.0, slots_fit e fs a.1)
 

@@ -1,7 +1,7 @@
 -- An accepted packet touches its user's flights only.
 use Rattle.std.proofs.Common.{◌≡◌, ℕ, true, false, not, eqb, List, [], ◌∷◌, map, is_some, Some, None, Option, sym, refl, ap, ◌∙◌}
 use Rattle.std.proofs.lemmas.Bool.{both_ways, not-false, cond-false, eqb-true}
-use Rattle.std.specs.List.{AllZip, AllByRecursion as All}
+use Rattle.std.specs.List.{AllZip, AllByRecursion}
 use Rattle.calendar.specs.Identities.{Identity, carrier_of}
 use Rattle.element.specs.Meanings.{or_else}
 use Rattle.flights.specs.Flights.{Flight}
@@ -18,13 +18,13 @@ use Rattle.packets.proofs.Amending.{found_identity}
 use Rattle.packets.proofs.Alike.{same_owner}
 
 -- messages that do not name the flight give it nothing
-pub unnamed_none : {X : Type 0} (i : Identity) (gives : Message → Option X) (ms : List Message) → All (λ m. names m i ≡ false) ms → first_for i gives ms ≡ None
+pub unnamed_none : {X : Type 0} (i : Identity) (gives : Message → Option X) (ms : List Message) → AllByRecursion (λ m. names m i ≡ false) ms → first_for i gives ms ≡ None
 unnamed_none i gives [] a = refl
 unnamed_none i gives (m ∷ ms) a =
     ap (λ o. or_else o (first_for i gives ms)) (cond-false (names m i) (gives m) None a.0) ∙ unnamed_none i gives ms a.1
 
 -- so it stays as it is
-pub unnamed_kept : (ms : List Message) (f : Flight) → All (λ m. names m f.identity ≡ false) ms → amended ms f ≡ f
+pub unnamed_kept : (ms : List Message) (f : Flight) → AllByRecursion (λ m. names m f.identity ≡ false) ms → amended ms f ≡ f
 unnamed_kept ms f a =
     let i = f.identity in
     let seat = unnamed_none i seat_of ms a in
@@ -39,7 +39,7 @@ other_user (Some w) v u q n = ap (λ x. eqb x u) (eqb-true w v q) ∙ n
 
 module _ {S : Type 0} (s : Setting S) (p : Program) (u : ℕ) where
   -- the messages of a packet whose lines all pass, each alone
-  pub all_alone : (os : List (Option Message)) → all_pass (line_numbers s p u os) ≡ true → All (Alone s p u) (messages_of os)
+  pub all_alone : (os : List (Option Message)) → all_pass (line_numbers s p u os) ≡ true → AllByRecursion (Alone s p u) (messages_of os)
   all_alone os h =
       let one = map (fault_alone s p u) os in
       let two = faults_together s p u (messages_of os) [] (messages_of os) in
@@ -61,12 +61,12 @@ module _ {S : Type 0} (s : Setting S) (p : Program) (u : ℕ) where
           let own = not-false (owns s u g) (ap (of_flight (λ f. not (owns s u f))) (sym e) ∙ a.own) in
           absurd (both_ways (owns s u g) (same_owner s u g f (found_identity f.identity p.flights g found) ∙ q) own)
 
-  pub none_named : (ms : List Message) (f : Flight) → All (Alone s p u) ms → owns s u f ≡ false → All (λ m. names m f.identity ≡ false) ms
+  pub none_named : (ms : List Message) (f : Flight) → AllByRecursion (Alone s p u) ms → owns s u f ≡ false → AllByRecursion (λ m. names m f.identity ≡ false) ms
   none_named [] f a q = tt
   none_named (m ∷ ms) f a q = (not_named m f a.0 q, none_named ms f a.1 q)
 
   -- to another user, the flights are the same after the packet
-  pub other_same : (v : ℕ) (ms : List Message) (fs gs : List Flight) → All (Alone s p u) ms → eqb v u ≡ false → AllZip (SameTo s v) fs gs → AllZip (SameTo s v) (map (amended ms) fs) gs
+  pub other_same : (v : ℕ) (ms : List Message) (fs gs : List Flight) → AllByRecursion (Alone s p u) ms → eqb v u ≡ false → AllZip (SameTo s v) fs gs → AllZip (SameTo s v) (map (amended ms) fs) gs
   other_same v ms [] [] a n e = tt
   other_same v ms [] (g ∷ gs) a n e = absurd e
   other_same v ms (f ∷ fs) [] a n e = absurd e

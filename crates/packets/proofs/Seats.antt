@@ -1,7 +1,7 @@
 -- How many flights hold a slot after one more message.
 use Rattle.std.proofs.Common.{◌≡◌, ℕ, ◌≤◌, Bool, true, false, cond, List, [], ◌∷◌, map, Some, None, Option, sym, refl, ap, ◌∙◌, arith}
 use Rattle.std.proofs.lemmas.Bool.{cond-true, cond-false}
-use Rattle.std.specs.List.{AllByRecursion as All}
+use Rattle.std.specs.List.{AllByRecursion}
 use Rattle.calendar.specs.Identities.{Identity, same_identity}
 use Rattle.element.specs.Slots.{Slot, same_slot}
 use Rattle.element.specs.Meanings.{or_else}
@@ -32,7 +32,7 @@ cond_same true x = refl
 cond_same false x = refl
 
 -- no message that names the flight gives anything
-pub first_none : {X : Type 0} (i : Identity) (gives : Message → Option X) (ms : List Message) → All (λ m. names m i ≡ true → gives m ≡ None) ms → first_for i gives ms ≡ None
+pub first_none : {X : Type 0} (i : Identity) (gives : Message → Option X) (ms : List Message) → AllByRecursion (λ m. names m i ≡ true → gives m ≡ None) ms → first_for i gives ms ≡ None
 first_none i gives [] a = refl
 first_none i gives (m ∷ ms) a =
     by_test (names m i)

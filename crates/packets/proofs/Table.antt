@@ -1,7 +1,7 @@
 -- The standing rules of a table, as facts.
 use Rattle.std.proofs.Common.{◌≡◌, ℕ, zero, suc, ◌+◌, ◌≤◌, Bool, true, false, not, List, [], ◌∷◌, ◌++◌, length, Some, None, Option, sym, refl, ap, ◌∙◌, arith, length-append}
 use Rattle.std.proofs.lemmas.Bool.{both_ways, and_parts, and_from, not-true, leb-true, le-leb}
-use Rattle.std.specs.List.{AllByRecursion as All}
+use Rattle.std.specs.List.{AllByRecursion}
 use Rattle.calendar.specs.Identities.{Identity, same_identity}
 use Rattle.element.specs.Slots.{Slot, same_slot}
 use Rattle.element.specs.Meanings.{Meaning}
@@ -54,7 +54,7 @@ holders_after x (g ∷ before) f =
 
 -- no two flights have one identity or one slot, there are at most 512, and each keeps its own rules
 pub record Rules (e : Meaning) (fs : List Flight) : Type 0 where
-  pub stand : All (λ f. flight_stands e f ≡ true) fs
+  pub stand : AllByRecursion (λ f. flight_stands e f ≡ true) fs
   pub identities : (i : Identity) → bearers i fs ≤ 1
   pub slots : (x : Slot) → holders x fs ≤ 1
   pub few : length fs ≤ 512
@@ -94,7 +94,7 @@ slot_adds before o x h k =
     rw e (omega arith))
     (λ e. rw e k)
 
-each_stands : (e : Meaning) (before fs : List Flight) → stands_after e before fs ≡ true → All (λ f. flight_stands e f ≡ true) fs
+each_stands : (e : Meaning) (before fs : List Flight) → stands_after e before fs ≡ true → AllByRecursion (λ f. flight_stands e f ≡ true) fs
 each_stands e before [] h = tt
 each_stands e before (f ∷ fs) h =
     let p = and_parts (joins e before f) _ h in
@@ -151,7 +151,7 @@ slot_new before (Some x) n h =
     let b = h x in
     none_some (holders x before) (omega arith)
 
-stands_from : (e : Meaning) (before fs : List Flight) → All (λ f. flight_stands e f ≡ true) fs → ((i : Identity) → bearers i fs + bearers i before ≤ 1) → ((x : Slot) → holders x fs + holders x before ≤ 1) → length fs + length before ≤ 512 → stands_after e before fs ≡ true
+stands_from : (e : Meaning) (before fs : List Flight) → AllByRecursion (λ f. flight_stands e f ≡ true) fs → ((i : Identity) → bearers i fs + bearers i before ≤ 1) → ((x : Slot) → holders x fs + holders x before ≤ 1) → length fs + length before ≤ 512 → stands_after e before fs ≡ true
 stands_from e before [] a i x n = refl
 stands_from e before (f ∷ fs) a i x n =
     and_from _ _

@@ -2,7 +2,7 @@
 use Rattle.std.proofs.Common.{◌≡◌, ℕ, ◌≤◌, true, false, cond, ◌&&◌, List, [], ◌∷◌, ◌++◌, map, Some, None, Option, unwrap_or, sym, refl, ap, ◌∙◌, arith}
 use Rattle.std.proofs.lemmas.Bool.{and_from}
 use Rattle.std.proofs.ByRecursion.{All-weaker}
-use Rattle.std.specs.List.{AllByRecursion as All}
+use Rattle.std.specs.List.{AllByRecursion}
 use Rattle.calendar.specs.Identities.{Identity}
 use Rattle.element.specs.Meanings.{or_else}
 use Rattle.flights.specs.Counts.{some}
@@ -45,7 +45,7 @@ seat_type (Some f) = seated_by f
 module _ {S : Type 0} (s : Setting S) (p : Program) (u : ℕ) where
   module _ {X : Type 0} (k : MessageType) (i : Identity) (gives : Message → Option X) (all : List Message) where
     -- after a message of the type for the flight, no message gives it anything more
-    later_none : (before ms : List Message) → 1 ≤ count (typed k i) before → Accepts s p u all before ms → All (OneType k i gives) ms → NoneGives i gives ms
+    later_none : (before ms : List Message) → 1 ≤ count (typed k i) before → Accepts s p u all before ms → AllByRecursion (OneType k i gives) ms → NoneGives i gives ms
     later_none before [] h a t = tt
     later_none before (m ∷ ms) h a t =
         let b = count_after (typed k i) before m in
@@ -62,7 +62,7 @@ module _ {S : Type 0} (s : Setting S) (p : Program) (u : ℕ) where
             absurd (omega arith)
 
     -- one message more before them takes nothing away
-    first_later : (before : List Message) (m : Message) (ms : List Message) → Accepts s p u all before (m ∷ ms) → All (OneType k i gives) (m ∷ ms) →
+    first_later : (before : List Message) (m : Message) (ms : List Message) → Accepts s p u all before (m ∷ ms) → AllByRecursion (OneType k i gives) (m ∷ ms) →
         (x : X) → first_for i gives ms ≡ Some x → first_for i gives (m ∷ ms) ≡ Some x
     first_later before m ms a t x e =
         by_test (names m i)
@@ -80,7 +80,7 @@ module _ {S : Type 0} (s : Setting S) (p : Program) (u : ℕ) where
             let z : ◌≡◌ {A = ℕ} 0 1 = cc in
             absurd (omega arith)
 
-    all_get : (before ms : List Message) → Accepts s p u all before ms → All (OneType k i gives) ms → All (Gets i gives ms) ms
+    all_get : (before ms : List Message) → Accepts s p u all before ms → AllByRecursion (OneType k i gives) ms → AllByRecursion (Gets i gives ms) ms
     all_get before [] a t = tt
     all_get before (m ∷ ms) a t = (
       first_here i gives m ms,
@@ -103,8 +103,8 @@ module _ {S : Type 0} (s : Setting S) (p : Program) (u : ℕ) where
       by Sc e = let z : ◌≡◌ {A = ℕ} 0 1 = cc in absurd (omega arith)
 
   -- the messages of an accepted packet, one by one
-  asked : (f : Flight) (all ms : List Message) → All (Gets f.identity seat_of all) ms → All (Gets f.identity cancel_of all) ms → All (Gets f.identity erta_of all) ms →
-      All (λ m. names m f.identity ≡ true → AsAsked m (amended all f)) ms
+  asked : (f : Flight) (all ms : List Message) → AllByRecursion (Gets f.identity seat_of all) ms → AllByRecursion (Gets f.identity cancel_of all) ms → AllByRecursion (Gets f.identity erta_of all) ms →
+      AllByRecursion (λ m. names m f.identity ≡ true → AsAsked m (amended all f)) ms
   asked f all [] seat cancel erta = tt
   asked f all (m ∷ ms) seat cancel erta = (
     (λ n. record {

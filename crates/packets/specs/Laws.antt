@@ -1,6 +1,6 @@
 -- What is proved of every packet.
 use Rattle.std.specs.Prelude.{◌≡◌, ℕ, Bool, true, false, List, map, Some, None, Option}
-use Rattle.std.specs.List.{AllZip, AllByRecursion as All}
+use Rattle.std.specs.List.{AllZip, AllByRecursion}
 use Rattle.text.specs.Lines.{Line}
 use Rattle.calendar.specs.Days.{Minute}
 use Rattle.calendar.specs.Identities.{Identity}
@@ -87,13 +87,13 @@ pub record SameCancel (f g : Flight) : Type 0 where
 
 -- no message that names the flight gives this
 abbrev pub NoneGives : {X : Type 0} → Identity → (Message → Option X) → List Message → Type 0
-NoneGives i gives ms = All (λ m. names m i ≡ true → gives m ≡ None) ms
+NoneGives i gives ms = AllByRecursion (λ m. names m i ≡ true → gives m ≡ None) ms
 
 -- what a packet makes of a flight, f before it and g after it: nothing where no message names it; else it has all that each
 -- message that names it asks for, what none of them asks for is as it was, and so are its identity and two marks in any case
 pub record Differs (ms : List Message) (f g : Flight) : Type 0 where
-  pub unnamed : All (λ m. names m f.identity ≡ false) ms → g ≡ f
-  pub asked : All (λ m. names m f.identity ≡ true → AsAsked m g) ms
+  pub unnamed : AllByRecursion (λ m. names m f.identity ≡ false) ms → g ≡ f
+  pub asked : AllByRecursion (λ m. names m f.identity ≡ true → AsAsked m g) ms
   pub seat : NoneGives f.identity seat_of ms → SameSeat g f
   pub cancel : NoneGives f.identity cancel_of ms → SameCancel g f
   pub erta : NoneGives f.identity erta_of ms → g.erta ≡ f.erta

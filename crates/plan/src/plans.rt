@@ -1,6 +1,6 @@
 ghost use Rattle.std.specs.Prelude.{◌≡◌, ◌+◌, ◌<◌, ◌≤◌, true, false, [], ◌∷◌, ◌++◌, map, length, take, MatchOption, slice_set};
 ghost use Rattle.std.specs.Option.{option_map};
-ghost use Rattle.std.specs.List.{AllByRecursion as All};
+ghost use Rattle.std.specs.List.{AllByRecursion};
 ghost use Rattle.text.specs.Lines.{lines_left};
 ghost use Rattle.calendar.specs.Days.{days_of};
 ghost use Rattle.flights.specs.Kept.{flights_of};
@@ -85,7 +85,7 @@ impl Plan {
 
     /// The plan of 1 to 64 message lines; no row has a number yet.
     pub fn read<E: Element>(element: &E, days: &Days, start: Lines) -> Option<Plan>
-        ensures { MatchOption result (has_places (lines_left start.entry) ≡ false) (λ p. (has_places (lines_left start.entry) ≡ true) × (rows_of p ≡ map (row_read (E.Element.means element.now) (days_of days.now)) (lines_left start.entry)) × All (λ n. n ≡ 0) (numbers_of p)) }
+        ensures { MatchOption result (has_places (lines_left start.entry) ≡ false) (λ p. (has_places (lines_left start.entry) ≡ true) × (rows_of p ≡ map (row_read (E.Element.means element.now) (days_of days.now)) (lines_left start.entry)) × AllByRecursion (λ n. n ≡ 0) (numbers_of p)) }
     {
         let mut plan = Plan::new();
         let mut rest = start;

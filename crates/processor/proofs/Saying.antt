@@ -1,7 +1,7 @@
 -- What is written is what the outcome says.
 use Rattle.std.proofs.Common.{◌≡◌, ℕ, zero, suc, ◌<◌, true, false, cond, eqb, ltb, List, [], ◌∷◌, map, length, Some, None, Option, sym, refl, ap, ◌∙◌, zero-add, arith}
 use Rattle.std.proofs.lemmas.Bool.{and_left, ne_eqb}
-use Rattle.std.specs.List.{AllByRecursion as All}
+use Rattle.std.specs.List.{AllByRecursion}
 use Rattle.text.specs.Lines.{Line}
 use Rattle.messages.specs.Headers.{header_read, has_places}
 use Rattle.packets.specs.Messages.{Message, message_read}
@@ -49,7 +49,7 @@ some_fails [] h = absurd (h refl)
 some_fails (zero ∷ ns) h = some_fails ns h
 some_fails (suc n ∷ ns) h = and_left (eqb (suc n) 0) (all_pass ns) (ne_eqb (suc n) 0 (λ z. omega arith))
 
-pub all_unmap : {X : Type 0} (f : X → ℕ) (xs : List X) → All (λ n. n < 1000) (map f xs) → All (λ x. f x < 1000) xs
+pub all_unmap : {X : Type 0} (f : X → ℕ) (xs : List X) → AllByRecursion (λ n. n < 1000) (map f xs) → AllByRecursion (λ x. f x < 1000) xs
 all_unmap f [] h = tt
 all_unmap f (x ∷ xs) h = (h.0, all_unmap f xs h.1)
 

@@ -3,7 +3,7 @@ ghost use Rattle.text.specs.Lines.{line_of, lines_left};
 ghost use Rattle.messages.specs.Kept.{identifier_of};
 ghost use Rattle.model.specs.Model.{Answer, input_of, packet};
 ghost use Rattle.processor.specs.Packet.{answered, by_lines, judged};
-ghost use Rattle.std.specs.List.{AllByRecursion as All};
+ghost use Rattle.std.specs.List.{AllByRecursion};
 ghost use Rattle.plan.specs.Rows.{rows_of, numbers_of, messages_in};
 ghost use Rattle.answering.specs.Replies.{line_in};
 ghost use Rattle.processor.specs.Judging.{Judges};
@@ -80,7 +80,7 @@ impl<R: Register + Drop, E: Element + Drop> Processor<R, E> {
 
     /// Applies a judged packet whole, or rejects it, and writes the reply.
     fn conclude(&mut self, id: &Identifier, plan: &Plan, reply: &mut [u8]) -> (u32, usize)
-        requires { (All (λ n. n < 1000) (numbers_of plan.now)) × (40960 ≤ length reply.old) }
+        requires { (AllByRecursion (λ n. n < 1000) (numbers_of plan.now)) × (40960 ≤ length reply.old) }
         ensures sends { ((program_of self.new.condition (E.Element.span self.new.element) self.new.table), (record { number = result.0; second = result.1; buffer = Some reply.new })) ≡ answered (program_of self.old.condition (E.Element.span self.old.element) self.old.table) reply.old (judged (setting_of (R.Register.owner self.old.register) (R.Register.carrier self.old.register) (E.Element.means self.old.element)) (program_of self.old.condition (E.Element.span self.old.element) self.old.table) (identifier_of id.now) (map line_in (rows_of plan.now)) (messages_in (rows_of plan.now)) (numbers_of plan.now)) }
         ensures register { self.new.register ≡ self.old.register }
         ensures element { E.Element.means self.new.element ≡ E.Element.means self.old.element }

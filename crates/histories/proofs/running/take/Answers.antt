@@ -14,7 +14,7 @@ returns g c =
     let p' = program_of new.condition (g.E.Element.span new.element) new.table in
     let t = c.args.turn.now in
     record {
-      takes = taken_from s p p' t _ c.make-number.result c.as-mut-slice.result.now c.make-number.new.buffer c.make-number.ensures.does c.as-mut-slice.ensures.value (with_items_is t.buffer c.make-number.new.buffer (omega arith)) refl refl refl;
+      takes = taken_from s p p' t _ c.make-number.result c.as_mut_slice.result.now c.make-number.new.buffer c.make-number.ensures.does c.as_mut_slice.ensures.value (with_items_is t.buffer c.make-number.new.buffer (omega arith)) refl refl refl;
       register = c.make-number.ensures.register;
       element = c.make-number.ensures.element;
     }

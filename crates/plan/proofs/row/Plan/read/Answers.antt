@@ -1,6 +1,6 @@
 use Rattle.std.proofs.Common.{◌≡◌, ◌≤◌, List, ◌++◌, map, length, sym, ap, ◌∙◌, subst, arith}
 use Rattle.std.proofs.ByRecursion.{All-push}
-use Rattle.std.specs.List.{AllByRecursion as All}
+use Rattle.std.specs.List.{AllByRecursion}
 use Rattle.text.specs.Lines.{line_of, lines_left}
 use Rattle.calendar.specs.Days.{days_of}
 use Rattle.plan.specs.Rows.{Row, row_of, rows_of, number_of, numbers_of, row_read}
@@ -19,7 +19,7 @@ loop-line-preserved g c = (
   filled_more (row_read (g.E.Element.means c.args.element.now) (days_of c.args.days.now)) (rows_of c.loop-line.plan) (rows_of c.push.new.self)
       (lines_left c.loop-line.rest) (lines_left c.next_line.new.self) (lines_left c.args.start) (line_of c.in-Some.line) (row_of c.row_of.result)
       c.loop-line.invariant.0 c.in-Some.ensures.gives c.row_of.ensures.row c.push.ensures.rows,
-  subst (All (λ n. n ≡ 0)) (sym c.push.ensures.numbers) (All-push (λ n. n ≡ 0) (numbers_of c.loop-line.plan) (number_of c.row_of.result) c.loop-line.invariant.1 c.row_of.ensures.number),
+  subst (AllByRecursion (λ n. n ≡ 0)) (sym c.push.ensures.numbers) (All-push (λ n. n ≡ 0) (numbers_of c.loop-line.plan) (number_of c.row_of.result) c.loop-line.invariant.1 c.row_of.ensures.number),
 )
 
 pub returns-then-plan-eq0 : goal.returns-then-plan-eq0
@@ -41,5 +41,5 @@ returns-else-plan-eq0 g c =
 pub loop-line-init : goal.loop-line-init
 loop-line-init g c = (
   ap (λ (rows : List Row). rows ++ map (row_read (g.E.Element.means c.args.element.now) (days_of c.args.days.now)) (lines_left c.args.start)) c.new-plan.ensures.rows,
-  subst (All (λ n. n ≡ 0)) (sym c.new-plan.ensures.numbers) tt,
+  subst (AllByRecursion (λ n. n ≡ 0)) (sym c.new-plan.ensures.numbers) tt,
 )

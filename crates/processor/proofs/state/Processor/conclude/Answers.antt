@@ -1,5 +1,5 @@
 use Rattle.std.proofs.Common.{ℕ, ◌<◌, List, map, length, vec_items, sym, refl, ap, ◌∙◌, subst, arith}
-use Rattle.std.specs.List.{AllByRecursion as All}
+use Rattle.std.specs.List.{AllByRecursion}
 use Rattle.calendar.specs.Days.{Days, days_of}
 use Rattle.flights.specs.Flights.{Flight}
 use Rattle.flights.specs.Kept.{flight_of}
@@ -22,7 +22,7 @@ put_line_faults-requires g c =
       c.as_bytes.ensures.short,
       (
         omega (arith, c.filled.ensures.count, plan.few),
-        (all_unmap number_of rows (subst (λ (ns : List ℕ). All (λ n. n < 1000) ns) (sym c.filled.ensures.numbers) c.requires.0), c.requires.1),
+        (all_unmap number_of rows (subst (λ (ns : List ℕ). AllByRecursion (λ n. n < 1000) ns) (sym c.filled.ensures.numbers) c.requires.0), c.requires.1),
       ),
     )
 

@@ -1,5 +1,5 @@
 use Rattle.std.proofs.Common.{◌≡◌, ℕ, ◌<◌, List, map, None, Option, sym, ap, ◌∙◌, subst}
-use Rattle.std.specs.List.{AllByRecursion as All}
+use Rattle.std.specs.List.{AllByRecursion}
 use Rattle.text.specs.Lines.{lines_left}
 use Rattle.calendar.specs.Days.{Days}
 use Rattle.flights.specs.Kept.{flights_of}
@@ -38,6 +38,6 @@ returns g c =
     ∙ ap (λ (ms : List (Option Message)). line_numbers s p u ms) (messages_back s p ls) in
     record {
       rows = c.judge.ensures.rows ∙ rows0;
-      small = subst (λ (ns : List ℕ). All (λ n. n < 1000) ns) (sym numbers) (numbers_small s p u os);
+      small = subst (λ (ns : List ℕ). AllByRecursion (λ n. n < 1000) ns) (sym numbers) (numbers_small s p u os);
       outcome = ready_outcome s p c.args.sender.now ls u (numbers_of c.judge.new.self) start.0 (sym c.in-Some-user_of.ensures) on numbers;
     }
