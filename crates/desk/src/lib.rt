@@ -5,7 +5,8 @@
 ghost use Rattle.std.specs.Prelude.{◌≡◌, length, IfOk, OnOk};
 ghost use Rattle.blocks.specs.Told.{told_of};
 ghost use Rattle.blocks.specs.Blocks.{blocks};
-ghost use Rattle.processor.specs.Kept.{setting_of, program_of};
+ghost use Rattle.model.specs.Model.{setting_of};
+ghost use Rattle.processor.specs.Kept.{program_of};
 ghost use Rattle.desk.specs.Told.{call_told, Answers, after_all};
 
 use blocks::{Block, Blocks};

@@ -1,6 +1,7 @@
 use Rattle.std.proofs.Common.{◌≡◌, ◌+◌, length}
 use Rattle.blocks.specs.Blocks.{blocks, blocks_left}
-use Rattle.processor.specs.Kept.{setting_of, program_of}
+use Rattle.model.specs.Model.{setting_of}
+use Rattle.processor.specs.Kept.{program_of}
 use Rattle.desk.specs.Told.{after_all}
 use Rattle.desk.proofs.serve.Given as goal
 
