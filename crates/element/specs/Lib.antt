@@ -3,6 +3,4 @@ pub mod Meanings
 pub mod Forms
 pub mod Pointed
 pub mod Kept
-pub mod PointedNames
-pub mod NameReading
-pub mod ElementNames
+pub mod ElementLaws

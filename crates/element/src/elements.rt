@@ -4,8 +4,7 @@ ghost use Rattle.calendar.specs.Days.{days_of};
 ghost use Rattle.calendar.specs.Identities.{is_airport};
 ghost use Rattle.element.specs.Forms.{is_area_name};
 ghost use Rattle.element.specs.Pointed.{airport_meaning, area_meaning};
-ghost use Rattle.element.specs.PointedNames.{pointed_apart};
-ghost use Rattle.element.specs.ElementNames.{airport_formed, area_formed};
+ghost use Rattle.element.specs.ElementLaws.{pointed_apart, airport_formed, area_formed};
 
 use crate::airport::Airport;
 use crate::area::FlowArea;

@@ -5,7 +5,7 @@ use Rattle.calendar.specs.Days.{Days}
 use Rattle.element.specs.Slots.{Slot}
 use Rattle.element.specs.Meanings.{Meaning, name_read}
 use Rattle.element.specs.Pointed.{airport_meaning}
-use Rattle.element.specs.PointedNames.{pointed_is}
+use Rattle.element.proofs.PointedNames.{pointed_is}
 use Rattle.packets.specs.Given.{value}
 use Rattle.packets.specs.Messages.{real_slot}
 use Rattle.model.specs.Model.{Setting, Call, issue, purge, packet}

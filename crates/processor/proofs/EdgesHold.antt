@@ -1,6 +1,6 @@
 -- The worked edges, by computing.
 use Rattle.std.proofs.Common.{codes, sym, refl}
-use Rattle.element.specs.PointedNames.{pointed_is}
+use Rattle.element.proofs.PointedNames.{pointed_is}
 use Rattle.processor.specs.Edges.{last_of_month, WorkedEdges}
 
 pub edges_hold : WorkedEdges

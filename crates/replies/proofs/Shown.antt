@@ -8,7 +8,7 @@ use Rattle.element.specs.declared.slot.Slot.{Slot as KeptSlot}
 use Rattle.element.specs.Slots.{Slot, is_pair, pop_up_at}
 use Rattle.element.specs.Meanings.{Meaning, Formed, SlotNamesApart, is_slot_name, name_read}
 use Rattle.element.specs.Kept.{slot_of}
-use Rattle.element.specs.NameReading.{name_reads, reads_none}
+use Rattle.element.proofs.NameReading.{name_reads, reads_none}
 use Rattle.flights.specs.declared.flight.ControlType.{ControlType}
 use Rattle.flights.specs.declared.flight.Flight.{Flight as KeptFlight}
 use Rattle.flights.specs.Flights.{is_pop_up}

@@ -1,5 +1,5 @@
 use Rattle.std.proofs.Common.{sym, arith}
-use Rattle.element.specs.ElementNames.{is_area}
+use Rattle.element.proofs.ElementNames.{is_area}
 use Rattle.element.proofs.elements.is_area_name.Goals as goal
 
 pub returns-then-same : goal.returns-then-same

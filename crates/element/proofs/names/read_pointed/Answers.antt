@@ -1,7 +1,7 @@
 use Rattle.std.proofs.Common.{◌≡◌, ℕ, ◌-◌, length, take, sym, ap, ◌∙◌, arith}
 use Rattle.std.specs.Str.{bytes_eq}
 use Rattle.calendar.specs.Days.{days_of}
-use Rattle.element.specs.ElementNames.{reads_front}
+use Rattle.element.proofs.ElementNames.{reads_front}
 use Rattle.element.proofs.names.read_pointed.Goals as goal
 
 pub returns : goal.returns

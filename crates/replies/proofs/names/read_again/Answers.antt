@@ -1,7 +1,7 @@
 use Rattle.std.proofs.Common.{◌≡◌}
 use Rattle.calendar.specs.Days.{days_of}
 use Rattle.element.specs.Meanings.{name_read}
-use Rattle.element.specs.ElementNames.{kept_days}
+use Rattle.element.proofs.ElementNames.{kept_days}
 use Rattle.flights.specs.Kept.{flight_of}
 use Rattle.replies.specs.Names.{pair_shown, slot_shown}
 use Rattle.replies.proofs.Shown.{kept_pair, shown_reads, names_read_again}

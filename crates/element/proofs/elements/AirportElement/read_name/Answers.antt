@@ -2,9 +2,10 @@ use Rattle.std.proofs.Common.{ap, ◌∙◌}
 use Rattle.text.specs.Short.{text_of}
 use Rattle.calendar.specs.Days.{days_of}
 use Rattle.element.specs.Pointed.{pointed_read, pointed_name}
-use Rattle.element.specs.ElementNames.{kept_days}
-use Rattle.element.specs.NameReading.{reads_its_name}
-use Rattle.element.specs.PointedNames.{pointed_is, pointed_apart}
+use Rattle.element.proofs.ElementNames.{kept_days}
+use Rattle.element.proofs.NameReading.{reads_its_name}
+use Rattle.element.specs.ElementLaws.{pointed_apart}
+use Rattle.element.proofs.PointedNames.{pointed_is}
 use Rattle.element.proofs.elements.AirportElement.read_name.Goals as goal
 
 pub returns : goal.returns

@@ -4,9 +4,9 @@ use Rattle.calendar.specs.Days.{days_of}
 use Rattle.element.specs.Meanings.{name_read}
 use Rattle.element.specs.Pointed.{pointed_name}
 use Rattle.element.specs.Kept.{slot_of}
-use Rattle.element.specs.ElementNames.{kept_days, kept_pair}
-use Rattle.element.specs.NameReading.{name_reads}
-use Rattle.element.specs.PointedNames.{pointed_apart}
+use Rattle.element.proofs.ElementNames.{kept_days, kept_pair}
+use Rattle.element.proofs.NameReading.{name_reads}
+use Rattle.element.specs.ElementLaws.{pointed_apart}
 use Rattle.element.proofs.elements.FlowAreaElement.write_name.Goals as goal
 
 pub returns : goal.returns

@@ -1,30 +1,20 @@
--- Names made of the element's name, a point, a time and a letter: they have their form, are apart, and are read as the names
--- alone define.
-use Rattle.std.specs.Prelude.{◌≡◌, ℕ, ◌+◌, ◌/◌, ◌%◌, ◌<◌, ◌≤◌, Bool, true, false, cond, ◌&&◌, ◌||◌, List, [], ◌∷◌, ◌++◌, length, take, drop, Some, None, Option, ◌==◌, nat_le, slice_index, refl}
-use Rattle.std.proofs.Common.{sym, ap, ◌∙◌, arith, length-append, take-append-drop}
-use Rattle.std.proofs.lemmas.Bool.{and_parts, and_from, eqb-true, leb-true, le-leb, or_left}
+-- Names made of the element's name, a point, a time and a letter are read as the names alone define.
+use Rattle.std.specs.Prelude.{◌≡◌, ℕ, ◌<◌, Bool, true, false, cond, ◌&&◌, List, [], ◌∷◌, ◌++◌, length, take, drop, Some, None, Option, ◌==◌, nat_le, slice_index, refl}
+use Rattle.std.proofs.Common.{sym, ap, ◌∙◌, arith, take-append-drop}
+use Rattle.std.proofs.lemmas.Bool.{and_from, eqb-true, le-leb}
 use Rattle.std.proofs.lemmas.Slice.Eq.{bytes_eq-Decides, text_from_reads}
-use Rattle.std.proofs.lemmas.List.{take_at, drop_at}
 use Rattle.std.proofs.lemmas.Bool.Decides.{nat_tests}
 use Rattle.std.specs.Option.{option_map}
 use Rattle.std.specs.Str.{bytes_eq}
-use Rattle.text.specs.Bytes.{is_capital, is_capital_or_digit, each}
-use Rattle.text.proofs.Scans.{each_append}
-use Rattle.calendar.specs.Days.{Days, is_days, day_after, minute_from, time_read, time_written}
-use Rattle.calendar.specs.Digits.{two_digits, two_digits_of}
-use Rattle.calendar.proofs.Reading.{Month, reads_written, written_alone}
+use Rattle.text.specs.Bytes.{is_capital}
+use Rattle.calendar.specs.Days.{Days, is_days, minute_from, time_read, time_written}
+use Rattle.calendar.specs.Digits.{two_digits}
+use Rattle.calendar.proofs.Reading.{Month, written_alone}
 use Rattle.element.specs.Slots.{Slot, is_pair}
-use Rattle.element.specs.Meanings.{NamesApart, name_read, is_slot_name}
+use Rattle.element.specs.Meanings.{name_read}
 use Rattle.element.specs.Pointed.{suffix, pointed_name, with_letter, suffix_read, pointed_read}
-use Rattle.element.specs.NameReading.{name_reads, reads_none}
-
-pub month_of : (d : Days) → is_days d ≡ true → Month d
-month_of d h = record {
-  from = grind (arith, nat_tests);
-  within = grind (arith, nat_tests);
-  least = grind (arith, nat_tests);
-  most = grind (arith, nat_tests);
-}
+use Rattle.element.proofs.NameReading.{name_reads, reads_none}
+use Rattle.element.specs.ElementLaws.{month_of, pointed_back, pointed_apart}
 
 -- a time that is read lies in the week
 week_of : (d : Days) (x y z : Option ℕ) (m : ℕ) → Month d → minute_from d x y z ≡ Some m → m < 10080
@@ -32,20 +22,6 @@ week_of d None y z m w h = let no : ◌≡◌ {A = ℕ} 0 1 = cc in absurd (omeg
 week_of d (Some dd) None z m w h = let no : ◌≡◌ {A = ℕ} 0 1 = cc in absurd (omega arith)
 week_of d (Some dd) (Some hh) None m w h = let no : ◌≡◌ {A = ℕ} 0 1 = cc in absurd (omega arith)
 week_of d (Some dd) (Some hh) (Some mm) m w h = grind (arith, nat_tests)
-
-record Pair (p : Slot) : Type 0 where
-  week : p.minute < 10080
-  capital : is_capital p.letter ≡ true
-
-pair_of : (p : Slot) → is_pair p ≡ true → Pair p
-pair_of p h =
-    let parts = and_parts (nat_le p.minute 10079) _ h in
-    record { week = omega (arith, leb-true p.minute 10079 parts.0); capital = parts.1 }
-
-suffix_back : (d : Days) (p : Slot) → is_days d ≡ true → is_pair p ≡ true → suffix_read d (suffix d p) ≡ Some p
-suffix_back d p days h =
-    let q = pair_of p h in
-    rw (q.capital, reads_written d p.minute (month_of d days) q.week)
 
 -- what was read, and of which text
 record Was (d : Days) (t : List ℕ) (p : Slot) : Type 0 where
@@ -83,12 +59,6 @@ was_long d t p true w e h =
 suffix_only : (d : Days) (t : List ℕ) (p : Slot) → is_days d ≡ true → suffix_read d t ≡ Some p → Was d t p
 suffix_only d t p days h = was_long d t p (length t == 8) (month_of d days) refl h
 
-pointed_back : (name : List ℕ) (d : Days) (p : Slot) → is_days d ≡ true → is_pair p ≡ true → pointed_read name d (pointed_name name d p) ≡ Some p
-pointed_back name d p days h =
-    let long : length name ≤ length (name ++ suffix d p) = simp length-append (omega arith) in
-    rw (le-leb (length name) (length (name ++ suffix d p)) long, take_at name (suffix d p) (length name) refl, drop_at name (suffix d p) (length name) refl, (bytes_eq-Decides name name).1 refl)
-    (suffix_back d p days h)
-
 -- what was read, and of which name
 pub record Wrote (name : List ℕ) (d : Days) (t : List ℕ) (p : Slot) : Type 0 where
   pub pair : is_pair p ≡ true
@@ -105,14 +75,6 @@ wrote_from name d t p false y days i j h = let no : ◌≡◌ {A = ℕ} 0 1 = cc
 pointed_only : (name : List ℕ) (d : Days) (t : List ℕ) (p : Slot) → is_days d ≡ true → pointed_read name d t ≡ Some p → Wrote name d t p
 pointed_only name d t p days h = wrote_from name d t p (nat_le (length name) (length t)) (bytes_eq (take (length name) t) name) days refl refl h
 
--- two different pairs never share such a name
-pub pointed_apart : (name : List ℕ) (d : Days) → is_days d ≡ true → NamesApart (pointed_name name d)
-pointed_apart name d days p q hp hq e =
-    let a = pointed_back name d p days hp in
-    let b = pointed_back name d q days hq in
-    let both : Some p ≡ Some q = sym a ∙ ap (pointed_read name d) e ∙ b in
-    cc
-
 none_or_read : (name : List ℕ) (d : Days) (t : List ℕ) (o : Option Slot) → is_days d ≡ true → pointed_read name d t ≡ o → o ≡ name_read (pointed_name name d) t
 none_or_read name d t None days h =
     sym (reads_none (pointed_name name d) t (λ p hp e.
@@ -126,35 +88,3 @@ none_or_read name d t (Some p) days h =
 -- the code reads what the names alone define
 pub pointed_is : (name : List ℕ) (d : Days) (t : List ℕ) → is_days d ≡ true → pointed_read name d t ≡ name_read (pointed_name name d) t
 pointed_is name d t days = none_or_read name d t (pointed_read name d t) days refl
-
--- the form of such a name
-abbrev named : ℕ → Bool
-named b = is_capital_or_digit b || b == 46
-
-each_named : (xs : List ℕ) → each is_capital_or_digit xs ≡ true → each named xs ≡ true
-each_named [] h = refl
-each_named (x ∷ xs) h =
-    let parts = and_parts (is_capital_or_digit x) (each is_capital_or_digit xs) h in
-    and_from (named x) (each named xs) (or_left (is_capital_or_digit x) (x == 46) parts.0) (each_named xs parts.1)
-
-two_named : (n : ℕ) → n < 100 → each named (two_digits_of n) ≡ true
-two_named n h = grind (arith, nat_tests)
-
-suffix_named : (d : Days) (p : Slot) → is_days d ≡ true → is_pair p ≡ true → each named (suffix d p) ≡ true
-suffix_named d p days h =
-    let w = month_of d days in
-    let q = pair_of p h in
-    let a : day_after d (p.minute / 1440) < 100 = grind (arith, nat_tests) in
-    let b : p.minute % 1440 / 60 < 100 = omega arith in
-    let c : p.minute % 60 < 100 = omega arith in
-    let l : each named (p.letter ∷ []) ≡ true = rw q.capital in
-    each_append named (time_written d p.minute) (p.letter ∷ [])
-    (each_append named (two_digits_of (day_after d (p.minute / 1440))) (two_digits_of (p.minute % 1440 / 60) ++ two_digits_of (p.minute % 60)) (two_named _ a)
-    (each_append named (two_digits_of (p.minute % 1440 / 60)) (two_digits_of (p.minute % 60)) (two_named _ b) (two_named _ c)))
-    l
-
-pub pointed_formed : (name : List ℕ) (d : Days) (p : Slot) → length name ≤ 6 → each is_capital_or_digit name ≡ true → is_days d ≡ true → is_pair p ≡ true → is_slot_name (pointed_name name d p) ≡ true
-pointed_formed name d p short chars days h =
-    let n : length (pointed_name name d p) ≡ length name + 8 = length-append name (suffix d p) in
-    and_from _ _ (and_from _ _ (le-leb 1 (length (pointed_name name d p)) (omega arith)) (le-leb (length (pointed_name name d p)) 14 (omega arith)))
-    (each_append named name (suffix d p) (each_named name chars) (suffix_named d p days h))

@@ -1,0 +1,3 @@
+pub mod NameReading
+pub mod PointedNames
+pub mod ElementNames
