@@ -6,25 +6,28 @@ ghost use Rattle.plan.specs.Rows.{rows_of, messages_in};
 ghost use Rattle.writing.specs.Overlay.{Wrote};
 ghost use Rattle.answering.specs.Replies.{accepted_list};
 
-use calendar::Days;
-use element::Element;
+use element::{Element, Naming};
 use flights::Flight;
 use plan::Plan;
 use replies::{put_accepted, put_list_opening, put_rows};
+use writing::Writer;
 
 /// The reply to a packet that is accepted.
 pub fn put_acceptance<E: Element>(
     out: &mut [u8],
-    element: &E,
-    days: &Days,
+    naming: &Naming<E>,
     id: &[u8],
     flights: &[Flight],
     plan: &Plan,
 ) -> usize
-    requires { (length id.now ≤ 16) × ((length flights.now ≤ 512) × (40960 ≤ length out.old)) }
-    ensures wrote { Wrote out.old 0 (accepted_list (E.Element.means element.now) (days_of days.now) id.now (messages_of (messages_in (rows_of plan.now))) (map flight_of flights.now)) out.new result }
+    requires short { length id.now ≤ 16 }
+    requires few { length flights.now ≤ 512 }
+    requires room { 40960 ≤ length out.old }
+    ensures wrote { Wrote out.old 0 (accepted_list (E.Element.means naming.now.element.now) (days_of naming.now.days) id.now (messages_of (messages_in (rows_of plan.now))) (map flight_of flights.now)) out.new result }
 {
-    let end = put_accepted(out, 0, id);
-    let end = put_list_opening(out, end, element);
-    put_rows(out, end, element, days, flights, plan)
+    let mut reply = Writer::new(out);
+    put_accepted(&mut reply, id);
+    put_list_opening(&mut reply, naming.element);
+    put_rows(&mut reply, naming, flights, |flight| plan.names(flight));
+    reply.written()
 }

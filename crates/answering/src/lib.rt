@@ -2,10 +2,12 @@
 
 #![tactic(auto)]
 
+// Kept: a buffer in and a length out, since that length is the second number of the pair that a call of Processor answers.
+
 mod accepting;
 mod rejecting;
 mod reporting;
 
 pub use accepting::put_acceptance;
 pub use rejecting::{put_first_fault, put_line_faults};
-pub use reporting::{UserFlights, put_refused_request, put_report};
+pub use reporting::{is_reported, put_refused_request, put_report};

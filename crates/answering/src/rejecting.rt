@@ -1,76 +1,61 @@
-ghost use Rattle.std.specs.Prelude.{◌≡◌, ◌+◌, ◌*◌, ◌<◌, ◌≤◌, List, [], ◌∷◌, ◌++◌, map, length};
-ghost use Rattle.std.specs.List.{AllByRecursion};
+ghost use Rattle.std.specs.Prelude.{◌≡◌, ◌+◌, ◌*◌, ◌≤◌, map, length};
 ghost use Rattle.text.specs.Lines.{line_of};
+ghost use Rattle.model.specs.Refusals.{number};
 ghost use Rattle.writing.specs.Overlay.{Wrote};
+ghost use Rattle.writing.specs.Writers.{HasRoom, Puts};
 ghost use Rattle.plan.specs.Rows.{row_of, number_of};
-ghost use Rattle.flights.specs.Counts.{bump};
-ghost use Rattle.answering.specs.Replies.{fault_of, is_fault, faults, fault_lines, line_in, rejected_first, rejected_lines};
+ghost use Rattle.answering.specs.Replies.{faults, fault_lines, line_in, rejected_first, rejected_lines};
 
+use model::Refusal;
 use plan::Row;
 use replies::{put_fault, put_rejected};
 use text::Line;
+use writing::Writer;
 
 /// The reply to a packet that is rejected for its first line.
-pub fn put_first_fault(out: &mut [u8], id: &[u8], first: Line, number: u32) -> usize
-    requires { (length id.now ≤ 16) × ((length first.text.now ≤ 160) × ((number < 1000) × (40960 ≤ length out.old))) }
-    ensures wrote { Wrote out.old 0 (rejected_first id.now (line_of first.entry) number) out.new result }
+// Kept: the id as bytes with a bound, since `-` stands where no identifier was read.
+pub fn put_first_fault(out: &mut [u8], id: &[u8], first: Line, refusal: Refusal) -> usize
+    requires short_id { length id.now ≤ 16 }
+    requires short_line { length first.text.now ≤ 160 }
+    requires room { 40960 ≤ length out.old }
+    ensures wrote { Wrote out.old 0 (rejected_first id.now (line_of first.entry) (number refusal)) out.new result }
 {
-    let end = put_rejected(out, 0, id, 1);
-    put_fault(out, end, first.text, number)
+    let mut reply = Writer::new(out);
+    put_rejected(&mut reply, id, 1);
+    put_fault(&mut reply, first.text, refusal);
+    reply.written()
 }
 
-/// How many rows have a number.
-fn count_faults(rows: &[Row]) -> u32
-    requires { length rows.now ≤ 64 }
+/// How many rows have a fault.
+#[tactic(auto, using(crate::proofs::Faults::faults_counted, crate::proofs::Faults::faulty_where))]
+fn count_faults(rows: &[Row]) -> usize
     ensures count { result ≡ faults (map number_of rows.now) }
-    ensures few { result ≤ 64 }
+    ensures few { result ≤ length rows.now }
 {
-    let mut n = 0;
-    for row in rows {
-        n = counted(row, n);
-    }
-    n
-}
-
-/// One more where a row has a number.
-fn counted(row: &Row, n: u32) -> u32
-    requires { n < 64 }
-    ensures count { result ≡ bump (is_fault (number_of row.now)) n }
-    ensures more { result ≤ n + 1 }
-{
-    if row.number() == 0 { n } else { n + 1 }
-}
-
-/// The faulty line of a row and its number.
-fn put_row_fault(out: &mut [u8], at: usize, row: &Row) -> usize
-    requires { (number_of row.now < 1000) × (at + 169 ≤ length out.old) }
-    ensures wrote { Wrote out.old at (fault_of (row_of row.now).line (number_of row.now)) out.new result }
-    ensures most { result ≤ at + 169 }
-{
-    if row.number() == 0 {
-        at
-    } else {
-        put_fault(out, at, row.text(), row.number())
-    }
+    rows.iter().filter(|row| row.fault().is_some()).count()
 }
 
 /// Every faulty line, in order, each followed by its own number.
-fn put_faults(out: &mut [u8], at: usize, rows: &[Row]) -> usize
-    requires { (AllByRecursion (λ r. number_of r < 1000) rows.now) × (at + 169 * length rows.now ≤ length out.old) }
-    ensures wrote { Wrote out.old at (fault_lines (map line_in (map row_of rows.now)) (map number_of rows.now)) out.new result }
+fn put_faults(reply: &mut Writer, rows: &[Row])
+    requires room { HasRoom reply.old (169 * length rows.now) }
+    ensures puts { Puts reply.old (fault_lines (map line_in (map row_of rows.now)) (map number_of rows.now)) reply.new }
 {
-    let mut end = at;
     for row in rows {
-        end = put_row_fault(out, end, row);
+        if let Some(refusal) = row.fault() {
+            put_fault(reply, row.text(), refusal);
+        }
     }
-    end
 }
 
 /// The reply to a packet that is rejected for its message lines.
 pub fn put_line_faults(out: &mut [u8], id: &[u8], rows: &[Row]) -> usize
-    requires { (length id.now ≤ 16) × ((length rows.now ≤ 64) × ((AllByRecursion (λ r. number_of r < 1000) rows.now) × (40960 ≤ length out.old))) }
+    requires short { length id.now ≤ 16 }
+    requires few { length rows.now ≤ 64 }
+    requires room { 40960 ≤ length out.old }
     ensures wrote { Wrote out.old 0 (rejected_lines id.now (map line_in (map row_of rows.now)) (map number_of rows.now)) out.new result }
 {
-    let end = put_rejected(out, 0, id, count_faults(rows));
-    put_faults(out, end, rows)
+    let mut reply = Writer::new(out);
+    put_rejected(&mut reply, id, count_faults(rows));
+    put_faults(&mut reply, rows);
+    reply.written()
 }

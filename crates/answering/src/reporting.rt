@@ -1,57 +1,58 @@
-ghost use Rattle.std.specs.Prelude.{◌≡◌, ◌<◌, ◌≤◌, ◌&&◌, map, length, is_some};
+ghost use Rattle.std.specs.Prelude.{Bool, ◌≡◌, ◌≤◌, ◌&&◌, map, length, is_some};
+ghost use Rattle.std.specs.Fn.{FnReturnsAt};
 ghost use Rattle.text.specs.Lines.{line_of};
 ghost use Rattle.calendar.specs.Days.{days_of};
 ghost use Rattle.calendar.specs.Identities.{carrier_of};
-ghost use Rattle.flights.specs.Kept.{flight_of};
+ghost use Rattle.flights.specs.Flights.{Flight as FlightMeant};
+ghost use Rattle.flights.specs.Kept.{Chooses, flight_of};
+ghost use Rattle.model.specs.Refusals.{number};
 ghost use Rattle.register.specs.Users.{number_of};
 ghost use Rattle.packets.specs.StageOne.{is_user};
 ghost use Rattle.writing.specs.Overlay.{Wrote};
 ghost use Rattle.answering.specs.Replies.{refused_request, reported_list};
 
-use calendar::Days;
 use checks::owns;
-use element::Element;
-use flights::{Chooses, Flight};
+use element::{Element, Naming};
+use flights::Flight;
+use model::Refusal;
 use register::{Register, User};
 use replies::{put_fault, put_list_opening, put_rows};
 use text::Line;
-use writing::put;
+use writing::Writer;
 
-/// The reply to a request that is refused: its first line, and the number.
-pub fn put_refused_request(out: &mut [u8], first: Line, number: u32) -> usize
-    requires { (length first.text.now ≤ 160) × ((number < 1000) × (40960 ≤ length out.old)) }
-    ensures wrote { Wrote out.old 0 (refused_request (line_of first.entry) number) out.new result }
+/// The reply to a request that is refused: its first line, and the number of the refusal.
+pub fn put_refused_request(out: &mut [u8], first: Line, refusal: Refusal) -> usize
+    requires short { length first.text.now ≤ 160 }
+    requires room { 40960 ≤ length out.old }
+    ensures wrote { Wrote out.old 0 (refused_request (line_of first.entry) (number refusal)) out.new result }
 {
-    let end = put(out, 0, b"RQ REJECTED. 1 ERROR.\n\n");
-    put_fault(out, end, first.text, number)
+    let mut reply = Writer::new(out);
+    reply.put(b"RQ REJECTED. 1 ERROR.\n\n");
+    put_fault(&mut reply, first.text, refusal);
+    reply.written()
 }
 
 /// The answer to a request: a row for each flight that is chosen.
-pub fn put_report<E: Element, C: Chooses>(
+pub fn put_report<E: Element, C: Fn(&Flight) -> bool>(
     out: &mut [u8],
-    element: &E,
-    days: &Days,
+    naming: &Naming<E>,
     flights: &[Flight],
-    choice: &C,
+    choice: C,
 ) -> usize
-    requires { (length flights.now ≤ 512) × (40960 ≤ length out.old) }
-    ensures wrote { Wrote out.old 0 (reported_list (E.Element.means element.now) (days_of days.now) (C.Chooses.chosen choice.now) (map flight_of flights.now)) out.new result }
+    requires few { length flights.now ≤ 512 }
+    requires room { 40960 ≤ length out.old }
+    requires callable { C.IsAlwaysCallable choice }
+    ensures wrote { (t : FlightMeant → Bool) → Chooses (FnReturnsAt C.Fn choice) t → Wrote out.old 0 (reported_list (E.Element.means naming.now.element.now) (days_of naming.now.days) t (map flight_of flights.now)) out.new result }
 {
-    let end = put_list_opening(out, 0, element);
-    put_rows(out, end, element, days, flights, choice)
+    let mut reply = Writer::new(out);
+    put_list_opening(&mut reply, naming.element);
+    put_rows(&mut reply, naming, flights, choice);
+    reply.written()
 }
 
-/// The choice of a user's controlled flights.
-#[derive(Drop)]
-pub struct UserFlights<'a, R: Register> {
-    pub register: &'a R,
-    pub user: User,
-}
-
-impl<'a, R: Register> Chooses for UserFlights<'a, R> {
-    ghost chosen = { λ c f. is_user (R.Register.carrier c.register.now (carrier_of f.identity)) (number_of c.user) && is_some f.control };
-
-    fn chooses(&self, flight: &Flight) -> bool {
-        owns(self.register, self.user, flight) && flight.control.is_some()
-    }
+/// Whether a flight is one of the user's controlled flights.
+pub fn is_reported<R: Register>(register: &R, user: User, flight: &Flight) -> bool
+    ensures { result ≡ (is_user (R.Register.carrier register.now (carrier_of (flight_of flight.now).identity)) (number_of user) && is_some (flight_of flight.now).control) }
+{
+    owns(register, user, flight) && flight.control.is_some()
 }

@@ -1,19 +1,11 @@
-/// The four texts that name a flight.
-#[derive(Clone, Copy)]
-pub struct Named<'a> {
-    pub id: &'a [u8],
-    pub departure: &'a [u8],
-    pub arrival: &'a [u8],
-    pub date: &'a [u8],
-}
+use calendar::FlightTexts;
 
-/// What a block says.
+/// What a block says that is understood.
 #[derive(Clone, Copy)]
 pub enum Block<'a> {
     /// A list: the whole body, its first line included.
     Issue(&'a [u8]),
     Switch(bool),
     Purge,
-    Depart(Named<'a>),
-    NotUnderstood,
+    Depart(FlightTexts<'a>),
 }

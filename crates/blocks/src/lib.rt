@@ -6,5 +6,5 @@ mod block;
 mod cursor;
 mod reading;
 
-pub use block::{Block, Named};
+pub use block::Block;
 pub use cursor::Blocks;

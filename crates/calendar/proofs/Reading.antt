@@ -3,7 +3,7 @@ use Rattle.std.proofs.Common.{◌≡◌, ℕ, ◌+◌, ◌*◌, ◌/◌, ◌%◌
 use Rattle.std.proofs.lemmas.Bool.Decides.{nat_tests}
 use Rattle.std.proofs.lemmas.Bool.{eqb-true}
 use Rattle.std.proofs.lemmas.Slice.Eq.{text_from_reads}
-use Rattle.calendar.specs.Digits.{digit, tens_and_ones, two_digits, number}
+use Rattle.calendar.specs.Digits.{digit, tens_and_ones, two_digits}
 use Rattle.calendar.specs.Days.{Days, minute_at, minute_from, time_read, day_after, time_written, ReadsItsDigits}
 
 -- what holds of the days that the code keeps
@@ -91,16 +91,3 @@ reads_its_digits d t w = record {
   only = λ m h. written_alone d m t w h;
   every = λ m h e. ap (time_read d) e ∙ reads_written d m w h;
 }
-
--- texts of two bytes
-pub number_other : (t : List ℕ) → (length t ≡ 2 → ⊥) → None ≡ number t
-number_other [] h = refl
-number_other (a ∷ []) h = refl
-number_other (a ∷ b ∷ []) h = absurd (h refl)
-number_other (a ∷ b ∷ c ∷ t) h = refl
-
-pub number_two : (t : List ℕ) → length t ≡ 2 → number t ≡ two_digits (get_or t 0 0) (get_or t 1 0)
-number_two [] h = absurd (omega arith)
-number_two (a ∷ []) h = absurd (omega arith)
-number_two (a ∷ b ∷ []) h = refl
-number_two (a ∷ b ∷ c ∷ t) h = absurd (omega arith)

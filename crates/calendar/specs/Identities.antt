@@ -43,7 +43,7 @@ carrier_of i = take 3 i.id
 
 abbrev pub same_identity : Identity → Identity → Bool
 same_identity a b =
-    bytes_eq a.id b.id && bytes_eq a.departure b.departure && bytes_eq a.arrival b.arrival && bytes_eq a.date b.date
+    bytes_eq a.id b.id && (bytes_eq a.departure b.departure && (bytes_eq a.arrival b.arrival && bytes_eq a.date b.date))
 
 -- an identity of the code, as the definitions see it
 abbrev pub identity_of : KeptIdentity → Identity

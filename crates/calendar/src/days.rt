@@ -13,7 +13,7 @@ pub struct Days {
 }
 
 /// A minute of an element's days, counted from the start of the base day: 0 to 10,079.
-#[derive(Clone, Copy)]
+#[derive(Clone, Copy, Debug, PartialEq, Eq, PartialOrd, Ord)]
 pub struct Minute {
     pub(crate) value: u16,
     ghost week: { value < 10080 },

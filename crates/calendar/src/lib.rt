@@ -12,4 +12,4 @@ mod times;
 pub use dates::is_date;
 pub use days::{Days, Minute};
 pub use identities::{is_airport, is_id};
-pub use identity::Identity;
+pub use identity::{FlightTexts, Identity};

@@ -3,10 +3,11 @@ ghost use Rattle.std.specs.Option.{option_map};
 ghost use Rattle.calendar.specs.Days.{days_of, minute_of, days_read, minute_at, time_read, time_written, day_after, ReadsItsDigits};
 
 use crate::days::{Days, Minute};
-use crate::digits::{number_of, two_digits};
+use crate::digits::{digits_of, number_of, two_digits};
 
 impl Minute {
     /// The minute with a number below 10,080.
+    // Kept: `new` and an Option, as NonZero has it in the library: none is all that there is to say of an error.
     pub fn new(value: u16) -> Option<Minute>
         ensures { option_map minute_of result ≡ (if nat_le value 10079 then Some value else None) }
     {
@@ -33,7 +34,7 @@ impl Days {
     {
         let base = number_of(base)?;
         let month = number_of(month)?;
-        if month >= 28 && month <= 31 && base >= 1 && base <= month {
+        if (28..=31).contains(&month) && (1..=month).contains(&base) {
             Some(Days { base, month })
         } else {
             None
@@ -44,7 +45,7 @@ impl Days {
     fn minute_at(&self, dd: u8, hh: u8, mm: u8) -> Option<Minute>
         ensures { option_map minute_of result ≡ minute_at (days_of self.now) dd hh mm }
     {
-        if dd < 1 || dd > self.month || hh > 23 || mm > 59 {
+        if !(1..=self.month).contains(&dd) || hh > 23 || mm > 59 {
             return None;
         }
         let since = if dd >= self.base {
@@ -65,13 +66,10 @@ impl Days {
         ensures value { option_map minute_of result ≡ time_read (days_of self.now) text.now }
         ensures exactly { ReadsItsDigits (days_of self.now) text.now }
     {
-        if text.len() != 6 {
+        let &[a, b, c, d, e, f] = text else {
             return None;
-        }
-        let dd = two_digits(text[0], text[1])?;
-        let hh = two_digits(text[2], text[3])?;
-        let mm = two_digits(text[4], text[5])?;
-        self.minute_at(dd, hh, mm)
+        };
+        self.minute_at(two_digits(a, b)?, two_digits(c, d)?, two_digits(e, f)?)
     }
 
     /// The day of the month, `k` days after the base day.
@@ -93,16 +91,10 @@ impl Days {
         ensures value { result ≡ time_written (days_of self.now) (minute_of minute) }
         ensures back { time_read (days_of self.now) result ≡ Some (minute_of minute) }
     {
-        let dd = self.day_after((minute.value / 1440) as u8);
-        let hh = (minute.value % 1440 / 60) as u8;
-        let mm = (minute.value % 60) as u8;
-        [
-            b'0' + dd / 10,
-            b'0' + dd % 10,
-            b'0' + hh / 10,
-            b'0' + hh % 10,
-            b'0' + mm / 10,
-            b'0' + mm % 10,
-        ]
+        let day = self.day_after((minute.value / 1440) as u8);
+        let [a, b] = digits_of(day);
+        let [c, d] = digits_of((minute.value % 1440 / 60) as u8);
+        let [e, f] = digits_of((minute.value % 60) as u8);
+        [a, b, c, d, e, f]
     }
 }

@@ -1,1 +1,1 @@
-pub mod Scans
+mod Found

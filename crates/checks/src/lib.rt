@@ -3,8 +3,8 @@
 #![tactic(auto)]
 
 mod alone;
+mod checker;
 mod holding;
-mod stage_one;
 
-pub use holding::{owns, user_holder};
-pub use stage_one::fault_alone;
+pub use checker::Checker;
+pub use holding::owns;

@@ -2,39 +2,35 @@
 
 #![tactic(auto)]
 
-ghost use Rattle.std.specs.Prelude.{◌≡◌, length, IfOk, OnOk};
+ghost use Rattle.std.specs.Prelude.{◌≡◌, ℕ, List, length, IfOk, OnOk};
 ghost use Rattle.blocks.specs.Told.{told_of};
 ghost use Rattle.blocks.specs.Blocks.{blocks};
-ghost use Rattle.model.specs.Model.{setting_of};
-ghost use Rattle.processor.specs.Kept.{program_of};
+ghost use Rattle.processor.specs.Held.{setting, program};
 ghost use Rattle.desk.specs.Told.{call_told, Answers, after_all};
 
 use blocks::{Block, Blocks};
 use element::Element;
 use processor::Processor;
 use register::Register;
+use std::io::Read;
 
 /// Makes the call of a block: the pair that it answers, and none where the block is not understood.
 fn answer<R: Register + Drop, E: Element + Drop>(
     processor: &mut Processor<R, E>,
-    block: Block,
+    block: Option<Block>,
 ) -> Option<(u32, usize)>
-    ensures answers { Answers (setting_of (R.Register.owner processor.old.register) (R.Register.carrier processor.old.register) (E.Element.means processor.old.element)) (program_of processor.old.condition (E.Element.span processor.old.element) processor.old.table) (call_told (told_of block.entry)) (program_of processor.new.condition (E.Element.span processor.new.element) processor.new.table) result }
+    ensures answers { Answers (setting processor.old) (program processor.old) (call_told (told_of block.entry)) (program processor.new) result }
     ensures register { processor.new.register ≡ processor.old.register }
     ensures element { E.Element.means processor.new.element ≡ E.Element.means processor.old.element }
 {
-    match block {
-        Block::Issue(list) => Some(processor.issue(list)),
-        Block::Switch(on) => Some(processor.switch(on)),
-        Block::Purge => Some(processor.purge()),
-        Block::Depart(flight) => Some(processor.depart(
-            flight.id,
-            flight.departure,
-            flight.arrival,
-            flight.date,
-        )),
-        Block::NotUnderstood => None,
-    }
+    // Kept: a match, since each block has other parts and its answer is the pair of its call; a closure for
+    // each case would have to be made somewhere and handed on.
+    Some(match block? {
+        Block::Issue(list) => processor.issue(list),
+        Block::Switch(on) => processor.switch(on),
+        Block::Purge => processor.purge(),
+        Block::Depart(flight) => processor.depart(flight),
+    })
 }
 
 /// Prints what a block is answered.
@@ -53,16 +49,27 @@ pub fn serve<R: Register + Drop, E: Element + Drop>(
     input: &[u8],
 ) -> anyhow::Result<usize>
     ensures count { IfOk result (λ n. n ≡ length (blocks input.now)) }
-    ensures program { OnOk result ((program_of processor.new.condition (E.Element.span processor.new.element) processor.new.table) ≡ after_all (setting_of (R.Register.owner processor.old.register) (R.Register.carrier processor.old.register) (E.Element.means processor.old.element)) (program_of processor.old.condition (E.Element.span processor.old.element) processor.old.table) (blocks input.now)) }
+    ensures program { OnOk result ((program processor.new) ≡ after_all (setting processor.old) (program processor.old) (blocks input.now)) }
     ensures register { processor.new.register ≡ processor.old.register }
     ensures element { E.Element.means processor.new.element ≡ E.Element.means processor.old.element }
 {
-    let mut rest = Blocks::new(input);
-    let mut answered = 0;
-    while let Some(block) = rest.next_block() {
+    for block in Blocks::new(input) {
         let pair = answer(processor, block);
         print_answer(rt, pair)?;
-        answered += 1;
     }
-    Ok(answered)
+    Ok(Blocks::new(input).count())
+}
+
+/// Puts each block of standard input to the processor, prints its answer, and says how many there were.
+pub fn serve_stdin<R: Register + Drop, E: Element + Drop>(
+    rt: &HostRuntime,
+    processor: &mut Processor<R, E>,
+) -> anyhow::Result<usize>
+    ensures served { IfOk result (λ n. (input : List ℕ) × (n ≡ length (blocks input)) × (program processor.new ≡ after_all (setting processor.old) (program processor.old) (blocks input))) }
+    ensures register { processor.new.register ≡ processor.old.register }
+    ensures element { E.Element.means processor.new.element ≡ E.Element.means processor.old.element }
+{
+    let mut input = Vec::new(rt.alloc());
+    rt.stdin().read_to_end(&mut input)?;
+    serve(rt, processor, input.as_slice())
 }

@@ -15,7 +15,7 @@ use Rattle.calendar.specs.Digits.{two_digits_of}
 use Rattle.calendar.proofs.Reading.{Month, reads_written}
 use Rattle.element.specs.Slots.{Slot, is_pair}
 use Rattle.element.specs.Meanings.{NamesApart, is_slot_name, Formed}
-use Rattle.element.specs.Pointed.{suffix, pointed_name, suffix_read, pointed_read, airport_meaning, area_meaning}
+use Rattle.element.specs.Pointed.{suffix, pointed_name, suffix_read, pointed_read, pointed_meaning, airport_meaning, area_meaning}
 use Rattle.calendar.specs.Identities.{is_airport}
 use Rattle.element.specs.Forms.{is_area_name}
 
@@ -81,8 +81,8 @@ suffix_named d p days h =
     (each_append named (two_digits_of (p.minute % 1440 / 60)) (two_digits_of (p.minute % 60)) (two_named _ b) (two_named _ c)))
     l
 
-pub pointed_formed : (name : List ℕ) (d : Days) (p : Slot) → length name ≤ 6 → each is_capital_or_digit name ≡ true → is_days d ≡ true → is_pair p ≡ true → is_slot_name (pointed_name name d p) ≡ true
-pointed_formed name d p short chars days h =
+pub pointed_formed_at : (name : List ℕ) (d : Days) (p : Slot) → length name ≤ 6 → each is_capital_or_digit name ≡ true → is_days d ≡ true → is_pair p ≡ true → is_slot_name (pointed_name name d p) ≡ true
+pointed_formed_at name d p short chars days h =
     let n : length (pointed_name name d p) ≡ length name + 8 = length-append name (suffix d p) in
     and_from _ _ (and_from _ _ (le-leb 1 (length (pointed_name name d p)) (omega arith)) (le-leb (length (pointed_name name d p)) 14 (omega arith)))
     (each_append named name (suffix d p) (each_named name chars) (suffix_named d p days h))
@@ -109,18 +109,18 @@ area_letters t h =
     ap (each is_capital_or_digit) (sym (take-append-drop 3 t))
     ∙ each_append is_capital_or_digit (take 3 t) (drop 3 t) (ap (each is_capital_or_digit) front) parts.1
 
+-- the texts of such an element have their form
+pub pointed_formed : (word : List ℕ) (serves : List ℕ → List ℕ → Bool) (name : List ℕ) → length name ≤ 6 → each is_capital_or_digit name ≡ true → length word ≤ 6 → Formed (pointed_meaning word serves name)
+pointed_formed word serves name short chars short_word = record {
+  short_name = short;
+  short_word = short_word;
+  slot_names = λ d p days k. pointed_formed_at name d p short chars days k;
+}
+
 -- the texts of an airport have their form
 pub airport_formed : (code : List ℕ) → is_airport code ≡ true → Formed (airport_meaning code)
-airport_formed code h = record {
-  short_name = airport_short code h;
-  short_word = omega arith;
-  slot_names = λ d p days k. pointed_formed code d p (airport_short code h) (airport_letters code h) days k;
-}
+airport_formed code h = pointed_formed (codes "ERTA") (λ name t. bytes_eq t name) code (airport_short code h) (airport_letters code h) (omega arith)
 
 -- the texts of a flow constrained area have their form
 pub area_formed : (name : List ℕ) → is_area_name name ≡ true → Formed (area_meaning name)
-area_formed name h = record {
-  short_name = area_short name h;
-  short_word = omega arith;
-  slot_names = λ d p days k. pointed_formed name d p (area_short name h) (area_letters name h) days k;
-}
+area_formed name h = pointed_formed (codes "EENTRY") (λ name t. true) name (area_short name h) (area_letters name h) (omega arith)

@@ -4,3 +4,5 @@ pub mod Forms
 pub mod Pointed
 pub mod Kept
 pub mod ElementLaws
+pub mod Kinds
+pub mod Same

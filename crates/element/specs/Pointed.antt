@@ -1,5 +1,5 @@
 -- The slot names of the two elements: the element's name, a point, a time and a letter.
-use Rattle.std.specs.Prelude.{ℕ, true, cond, ◌&&◌, List, [], ◌∷◌, ◌++◌, length, take, drop, None, codes, Option, ◌==◌, nat_le, slice_index}
+use Rattle.std.specs.Prelude.{ℕ, Bool, true, cond, ◌&&◌, List, [], ◌∷◌, ◌++◌, length, take, drop, None, codes, Option, ◌==◌, nat_le, slice_index}
 use Rattle.std.specs.Option.{option_map}
 use Rattle.std.specs.Str.{bytes_eq}
 use Rattle.text.specs.Bytes.{is_capital}
@@ -13,6 +13,15 @@ suffix d p = 46 ∷ (time_written d p.minute ++ (p.letter ∷ []))
 
 abbrev pub pointed_name : List ℕ → Days → Slot → List ℕ
 pointed_name name d p = name ++ suffix d p
+
+-- an element whose slot names are its name, a point, a time and a letter
+abbrev pub pointed_meaning : List ℕ → (List ℕ → List ℕ → Bool) → List ℕ → Meaning
+pointed_meaning word serves name = record {
+  name = name;
+  word = word;
+  serves = λ t. serves name t;
+  slot_name = λ d p. pointed_name name d p;
+}
 
 -- an airport serves only itself
 abbrev pub airport_meaning : List ℕ → Meaning

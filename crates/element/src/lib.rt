@@ -2,15 +2,16 @@
 
 #![tactic(auto)]
 
-mod airport;
-mod area;
 mod elements;
+mod kinds;
 mod model;
 mod names;
+mod naming;
+mod pointed;
 mod slot;
 mod slots;
 
-pub use airport::Airport;
-pub use area::FlowArea;
+pub use kinds::{Airport, FlowArea};
 pub use model::{Element, SlotName};
+pub use naming::Naming;
 pub use slot::Slot;

@@ -8,32 +8,23 @@ ghost use Rattle.element.specs.Kept.{slot_of};
 use crate::model::SlotName;
 use crate::slot::Slot;
 use calendar::Days;
-use text::{ShortText, same};
+use text::ShortText;
 
 /// Reads what follows the element's name: a point, a time, a letter.
 fn read_suffix(days: &Days, text: &[u8]) -> Option<Slot>
     ensures { option_map slot_of result ≡ suffix_read (days_of days.now) text.now }
 {
-    if text.len() != 8 || text[0] != b'.' {
+    let [b'.', time @ .., letter] = text else {
         return None;
-    }
-    let letter = text[7];
-    if letter < b'A' || letter > b'Z' {
-        return None;
-    }
-    let minute = days.read_time(&text[1..7])?;
-    Some(Slot { minute, letter })
+    };
+    Slot::new(days.read_time(time)?, *letter)
 }
 
 /// Reads a slot name of the element with the name given.
 pub(crate) fn read_pointed(name: &[u8], days: &Days, text: &[u8]) -> Option<Slot>
     ensures { option_map slot_of result ≡ pointed_read name.now (days_of days.now) text.now }
 {
-    let n = name.len();
-    if n > text.len() || !same(&text[0..n], name) {
-        return None;
-    }
-    read_suffix(days, &text[n..])
+    read_suffix(days, text.strip_prefix(name)?)
 }
 
 /// The slot name of the element with the name given.
@@ -41,16 +32,6 @@ pub(crate) fn write_pointed(name: &[u8], days: &Days, slot: &Slot) -> SlotName
     requires { length name.now ≤ 6 }
     ensures { text_of result ≡ pointed_name name.now (days_of days.now) (slot_of slot.now) }
 {
-    let time = days.write_time(slot.minute);
-    let suffix = [
-        b'.',
-        time[0],
-        time[1],
-        time[2],
-        time[3],
-        time[4],
-        time[5],
-        slot.letter,
-    ];
-    ShortText::joined(name, &suffix)
+    let [a, b, c, d, e, f] = days.write_time(slot.minute);
+    ShortText::joined(name, &[b'.', a, b, c, d, e, f, slot.letter])
 }

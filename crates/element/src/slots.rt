@@ -2,7 +2,7 @@ ghost use Rattle.std.specs.Prelude.{◌≡◌, if◌then◌else◌, Some, None};
 ghost use Rattle.std.specs.Option.{option_map};
 ghost use Rattle.text.specs.Bytes.{is_capital};
 ghost use Rattle.calendar.specs.Days.{minute_of};
-ghost use Rattle.element.specs.Slots.{same_slot, marks_pop_up, pop_up_at};
+ghost use Rattle.element.specs.Slots.{marks_pop_up, pop_up_at};
 ghost use Rattle.element.specs.Pointed.{with_letter};
 ghost use Rattle.element.specs.Kept.{slot_of};
 
@@ -11,10 +11,11 @@ use calendar::Minute;
 
 impl Slot {
     /// The pair of a minute and a letter A to Z.
+    // Kept: `new` and an Option, as Minute has it.
     pub fn new(minute: Minute, letter: u8) -> Option<Slot>
         ensures { option_map slot_of result ≡ (if is_capital letter then Some (with_letter letter (minute_of minute)) else None) }
     {
-        if letter >= b'A' && letter <= b'Z' {
+        if letter.is_ascii_uppercase() {
             Some(Slot { minute, letter })
         } else {
             None
@@ -34,21 +35,13 @@ impl Slot {
     pub fn letter(&self) -> u8
         ensures { result ≡ (slot_of self.now).letter }
     {
-        let Slot { letter, .. } = *self;
-        letter
+        self.letter
     }
 
     pub fn minute(&self) -> Minute
         ensures { minute_of result ≡ (slot_of self.now).minute }
     {
         self.minute
-    }
-
-    /// Whether this is the same slot: the same minute and the same letter.
-    pub fn is(&self, other: &Slot) -> bool
-        ensures { result ≡ same_slot (slot_of self.now) (slot_of other.now) }
-    {
-        self.minute.value() == other.minute.value() && self.letter == other.letter
     }
 
     /// Whether the letter is Z, which names no slot.

@@ -6,7 +6,7 @@ use Rattle.element.specs.Meanings.{Meaning}
 use Rattle.flights.specs.Counts.{bump, some}
 use Rattle.flights.specs.Flights.{Flight, is_slot, bearers, holders, departing, departed_as}
 use Rattle.flights.specs.Standing.{flight_stands, new_identity, free_slot, new_slot, has_place, joins, stands_after, table_stands}
-use Rattle.flights.proofs.Scans.{length_mapped, map_append}
+use Rattle.std.proofs.lemmas.List.{length-map, map-append}
 
 identity_kept : (b : Bool) (f : Flight) → (cond b (departing f) f).identity ≡ f.identity
 identity_kept true f = refl
@@ -45,7 +45,7 @@ module _ (i : Identity) where
       let q : new_identity before' (departed_as i f) ≡ new_identity before f =
       ap (λ j. not (some (bearers j before'))) (identity_kept b f) ∙ ap (λ n. not (some n)) (bearers_kept f.identity before) in
       let r : new_slot before' (departed_as i f) ≡ new_slot before f = ap (free_slot before') (slot_kept b f) ∙ free_kept before f.slot in
-      let s : has_place before' ≡ has_place before = ap (λ n. leb n 511) (length_mapped (departed_as i) before) in
+      let s : has_place before' ≡ has_place before = ap (λ n. leb n 511) (length-map before (departed_as i)) in
       cc
 
   after_kept : (e : Meaning) (before fs : List Flight) → stands_after e (map (departed_as i) before) (map (departed_as i) fs) ≡ stands_after e before fs
@@ -53,7 +53,7 @@ module _ (i : Identity) where
   after_kept e before (f ∷ fs) =
       ap (λ b. b && stands_after e (map (departed_as i) before ++ departed_as i f ∷ []) (map (departed_as i) fs)) (joins_kept e before f)
       ∙ ap (λ b. joins e before f && b)
-      (ap (λ l. stands_after e l (map (departed_as i) fs)) (sym (map_append (departed_as i) before (f ∷ []))) ∙ after_kept e (before ++ f ∷ []) fs)
+      (ap (λ l. stands_after e l (map (departed_as i) fs)) (sym (map-append (departed_as i) before (f ∷ []))) ∙ after_kept e (before ++ f ∷ []) fs)
 
   pub departed_stands : (e : Meaning) (fs : List Flight) → table_stands e (map (departed_as i) fs) ≡ table_stands e fs
   departed_stands e fs = after_kept e [] fs

@@ -1,27 +1,18 @@
 -- Flights of the code, as the definitions see them.
-use Rattle.std.specs.Prelude.{List, map, vec_items}
-use Rattle.std.specs.Option.{option_map}
-use Rattle.calendar.specs.Days.{minute_of}
-use Rattle.calendar.specs.Identities.{identity_of}
-use Rattle.element.specs.Kept.{slot_of}
+use Rattle.std.specs.Prelude.{◌≡◌, Bool, List}
 use Rattle.flights.specs.declared.flight.Flight.{Flight as KeptFlight}
 use Rattle.flights.specs.declared.table.Table.{Table}
 use Rattle.flights.specs.Flights.{Flight}
+pub use Rattle.flights.specs.Held.{flight_of}
 
-abbrev pub flight_of : KeptFlight → Flight
-flight_of f = record {
-  identity = identity_of f.identity;
-  slot = option_map slot_of f.slot;
-  ctd = minute_of f.ctd;
-  cta = minute_of f.cta;
-  control = f.control;
-  exempt = f.exempt;
-  cancelled = f.cancelled;
-  hold = f.hold;
-  erta = option_map minute_of f.erta;
-  departed = f.departed;
-}
-
--- the flights of a table, in its order
+-- the flights of a table, in its order: what a contract sees of it
 abbrev pub flights_of : Table → List Flight
-flights_of t = map flight_of (vec_items t.flights)
+flights_of t = t
+
+-- calls that change each flight as h changes it in the definitions
+abbrev pub Changes : (KeptFlight → KeptFlight → Type 0) → (Flight → Flight) → Type 0
+Changes gives h = (f g : KeptFlight) → gives f g → flight_of g ≡ h (flight_of f)
+
+-- calls that choose flights as t chooses them in the definitions
+abbrev pub Chooses : (KeptFlight → Bool → Type 0) → (Flight → Bool) → Type 0
+Chooses gives t = (f : KeptFlight) (b : Bool) → gives f b → b ≡ t (flight_of f)

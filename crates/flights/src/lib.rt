@@ -2,14 +2,11 @@
 
 #![tactic(auto)]
 
-mod choice;
 mod flight;
 mod standing;
 mod table;
 mod tables;
 
-pub use choice::Chooses;
 pub use flight::{ControlType, Flight};
 pub use standing::in_slot;
 pub use table::Table;
-pub use tables::{Amends, is_slot};

@@ -13,35 +13,25 @@ use element::{Element, Slot};
 fn asks_slot(control: Option<ControlType>) -> bool
     ensures { result ≡ asks_slot control }
 {
-    match control {
-        None => false,
-        Some(ControlType::Fa) => false,
-        Some(_) => true,
-    }
+    control.is_some_and(|control| control != ControlType::Fa)
 }
 
 /// Whether a CTA lies 0 to 20 minutes after the slot, where there is one.
 pub fn in_slot(slot: Option<Slot>, cta: Minute) -> bool
     ensures { result ≡ in_slot (option_map slot_of slot) (minute_of cta) }
 {
-    match slot {
-        None => true,
-        Some(s) => {
-            let minute = s.minute().value();
-            let landing = cta.value();
-            minute <= landing && landing <= minute + 20
-        }
-    }
+    slot.is_none_or(|slot| {
+        let minute = slot.minute().value();
+        let landing = cta.value();
+        minute <= landing && landing <= minute + 20
+    })
 }
 
 /// Whether the letter is not Z, where there is a slot.
 fn is_slot_letter(slot: Option<Slot>) -> bool
     ensures { result ≡ is_slot_letter (option_map slot_of slot) }
 {
-    match slot {
-        None => true,
-        Some(s) => !s.marks_pop_up(),
-    }
+    slot.is_none_or(|slot| !slot.marks_pop_up())
 }
 
 impl Flight {
@@ -65,7 +55,7 @@ impl Flight {
     {
         self.slot_fits_type()
             && self.hold_fits()
-            && self.ctd.value() < self.cta.value()
+            && self.ctd < self.cta
             && in_slot(self.slot, self.cta)
             && is_slot_letter(self.slot)
             && element.serves(self.identity.arrival())

@@ -1,11 +1,20 @@
-ghost use Rattle.std.specs.Prelude.{◌≤◌, vec_len, vec_capacity};
-
 use crate::flight::Flight;
+use std::marker::Model;
 
 /// A table of up to 512 flights. Its room is reserved when it is made, so nothing allocates later.
 #[derive(Drop)]
 pub struct Table {
     pub(crate) flights: Vec<Flight>,
-    ghost room: { 512 ≤ vec_capacity flights },
-    ghost few: { vec_len flights ≤ 512 },
+}
+
+impl Model for Table {
+    ghost use Rattle.std.specs.Prelude.{◌≤◌, List, map, vec_items, vec_len, vec_capacity};
+    ghost use Rattle.flights.specs.Flights.{Flight as FlightMeant};
+    ghost use Rattle.flights.specs.Held.{flight_of};
+
+    ghost Value = { List FlightMeant };
+
+    ghost view = { λ t. map flight_of (vec_items t.flights) };
+
+    ghost invariant = { λ t. (512 ≤ vec_capacity t.flights) × (vec_len t.flights ≤ 512) };
 }

@@ -1,9 +1,8 @@
 -- A history that is run turn by turn.
 use Rattle.std.proofs.Common.{◌≡◌, ℕ, ◌+◌, ◌<◌, List, [], ◌∷◌, ◌++◌, map, length, get_or, take, drop, set, vec_items, sym, refl, ap, ◌∙◌, subst, ap₂, append_assoc, append-nil, arith, length-set}
-use Rattle.std.proofs.lemmas.List.{take_more, take_more_set, take_all, drop_more, drop-set-lt, drop_all}
+use Rattle.std.proofs.lemmas.List.{map-append, take_more, take_more_set, take_all, drop_more, drop-set-lt, drop_all}
 use Rattle.std.proofs.lemmas.List.Elements.{all_zip_more}
 use Rattle.std.specs.List.{AllZip}
-use Rattle.flights.proofs.Scans.{map_append}
 use Rattle.model.specs.Model.{Setting, Program, Call, Answer}
 use Rattle.processor.specs.Step.{step}
 use Rattle.histories.specs.declared.turn.Call.{Call as KeptCall}
@@ -47,7 +46,7 @@ going_turn {S} s p₀ p p' ts₀ ts i t t' g h item k =
     record {
       said =
           ap (λ (l : List (Turn S)). map answer_of l ++ answers s p' left) front
-          ∙ ap (λ (l : List Answer). l ++ answers s p' left) (map_append answer_of (take i ts) (t' ∷ []))
+          ∙ ap (λ (l : List Answer). l ++ answers s p' left) (map-append answer_of (take i ts) (t' ∷ []))
           ∙ append_assoc (map answer_of (take i ts)) (answer_of t' ∷ []) (answers s p' left)
           ∙ ap₂ (λ (a : Answer) (q : Program). map answer_of (take i ts) ++ a ∷ answers s q left) (sym now₁) (sym now₀)
           ∙ ap (λ (cs : List (Call S)). map answer_of (take i ts) ++ answers s p cs) (sym calls)
@@ -55,9 +54,9 @@ going_turn {S} s p₀ p p' ts₀ ts i t t' g h item k =
       ends = ap (λ (q : Program). after s q left) (sym now₀) ∙ (ap (after s p) (sym calls) ∙ g.ends);
       same =
           ap (map made_by) front
-          ∙ map_append made_by (take i ts) (t' ∷ [])
+          ∙ map-append made_by (take i ts) (t' ∷ [])
           ∙ ap₂ (λ (l : List (KeptCall S)) (c : KeptCall S). l ++ c ∷ []) g.same (k.same ∙ ap made_by item₀)
-          ∙ sym (map_append made_by (take i ts₀) (get_or ts₀ i t ∷ []))
+          ∙ sym (map-append made_by (take i ts₀) (get_or ts₀ i t ∷ []))
           ∙ sym (ap (map made_by) front₀);
       leaves = subst (λ (l : List (Turn S)). AllZip Left (take (i + 1) ts₀) l) (sym front) (all_zip_more Left ts₀ (take i ts) i t t' h₀ item₀ g.leaves k.leaves);
       rest = drop-set-lt (i + 1) ts i t' (omega arith) ∙ later;
@@ -91,12 +90,12 @@ numbers_told {S} s p (t ∷ ts) (t' ∷ ts') e =
 
 -- a call that is made with a turn's buffer
 pub taken_from : {S : Type 0} (s : Setting S) (p p' : Program) (t t' : Turn S) (pair : ℕ × ℕ) (b b' : List ℕ) → Makes s p p' t.call pair b b' → b ≡ vec_items t.buffer → vec_items t'.buffer ≡ b' →
-    t'.call ≡ t.call → t'.number ≡ pair.0 → t'.second ≡ pair.1 → Taken s p p' t t'
-taken_from {S} s p p' t t' pair b b' m start end call number second = record {
+    t'.call ≡ t.call → t'.pair ≡ pair → Taken s p p' t t'
+taken_from {S} s p p' t t' pair b b' m start end call said = record {
   does =
-      ap (λ (c : KeptCall S). (p', record { number = t'.number; second = t'.second; buffer = buffer_with c (vec_items t'.buffer) })) call
-      ∙ ap (λ (x : List ℕ). (p', record { number = t'.number; second = t'.second; buffer = buffer_with t.call x })) end
-      ∙ ap₂ (λ (n k : ℕ). (p', record { number = n; second = k; buffer = buffer_with t.call b' })) number second
+      ap (λ (c : KeptCall S). (p', record { number = t'.pair.0; second = t'.pair.1; buffer = buffer_with c (vec_items t'.buffer) })) call
+      ∙ ap (λ (x : List ℕ). (p', record { number = t'.pair.0; second = t'.pair.1; buffer = buffer_with t.call x })) end
+      ∙ ap (λ (x : ℕ × ℕ). (p', record { number = x.0; second = x.1; buffer = buffer_with t.call b' })) said
       ∙ m.does
       ∙ ap (λ (x : List ℕ). step s p (call_with t.call x)) start;
   leaves = subst (λ (x : List ℕ). Leaves t.call x (vec_items t'.buffer)) start (subst (λ (x : List ℕ). Leaves t.call b x) (sym end) m.leaves);

@@ -9,8 +9,8 @@ use Rattle.flights.specs.Flights.{Flight}
 use Rattle.lists.specs.Lists.{Reading, good, faulty, list_read}
 use Rattle.packets.proofs.Deciding.{by_test}
 use Rattle.packets.proofs.Others.{same_self}
-use Rattle.model.specs.declared.Condition.{Condition}
-use Rattle.model.specs.declared.Condition.TheVariants.{NoProgram, On, Off}
+use Rattle.model.specs.declared.condition.Condition.{Condition}
+use Rattle.model.specs.declared.condition.Condition.TheVariants.{NoProgram, On, Off}
 use Rattle.model.specs.Model.{Setting, Program, Call, Answer, issue, switch, depart, purge, packet, report, program_stands}
 use Rattle.processor.specs.declared.calls.Operation.TheVariants.{Issue}
 use Rattle.processor.specs.Conditions.{refusal, unless}

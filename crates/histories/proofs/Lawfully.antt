@@ -1,8 +1,8 @@
 -- A history that is run keeps the laws.
 use Rattle.std.proofs.Common.{◌≡◌, true, List, map, sym, subst, ap₂}
 use Rattle.flights.specs.Flights.{Flight}
-use Rattle.model.specs.declared.Condition.{Condition}
-use Rattle.model.specs.declared.Condition.TheVariants.{NoProgram}
+use Rattle.model.specs.declared.condition.Condition.{Condition}
+use Rattle.model.specs.declared.condition.Condition.TheVariants.{NoProgram}
 use Rattle.model.specs.Model.{Setting, Program, none_without}
 use Rattle.histories.specs.declared.turn.Turn.{Turn}
 use Rattle.histories.specs.Runs.{fresh, after, Event, events}

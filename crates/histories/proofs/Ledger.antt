@@ -11,8 +11,8 @@ use Rattle.flights.specs.Standing.{table_stands}
 use Rattle.flights.proofs.Departing.{departed_stands}
 use Rattle.lists.specs.Lists.{Reading, good, faulty, list_read}
 use Rattle.lists.proofs.Standing.{list_stands}
-use Rattle.model.specs.declared.Condition.{Condition}
-use Rattle.model.specs.declared.Condition.TheVariants.{NoProgram, On, Off}
+use Rattle.model.specs.declared.condition.Condition.{Condition}
+use Rattle.model.specs.declared.condition.Condition.TheVariants.{NoProgram, On, Off}
 use Rattle.model.specs.Model.{Setting, Program, Call, Answer, Input, issue, switch, depart, purge, packet, report, refused, done, none_without, program_stands}
 use Rattle.packets.specs.Messages.{message_read}
 use Rattle.packets.specs.StageTwo.{count}

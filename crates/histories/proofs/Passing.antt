@@ -5,8 +5,8 @@ use Rattle.text.specs.Lines.{Line}
 use Rattle.messages.specs.Headers.{header_read, has_places}
 use Rattle.packets.specs.Messages.{message_read}
 use Rattle.packets.specs.Verdict.{messages_of, all_pass, line_numbers}
-use Rattle.model.specs.declared.Condition.{Condition}
-use Rattle.model.specs.declared.Condition.TheVariants.{NoProgram, On, Off}
+use Rattle.model.specs.declared.condition.Condition.{Condition}
+use Rattle.model.specs.declared.condition.Condition.TheVariants.{NoProgram, On, Off}
 use Rattle.model.specs.Model.{Setting, Program, Input, packet}
 use Rattle.processor.specs.declared.calls.Operation.TheVariants.{Packet}
 use Rattle.processor.specs.Conditions.{refusal}

@@ -19,8 +19,8 @@ use Rattle.packets.proofs.Shifts.{makes}
 use Rattle.writing.specs.Overlay.{overlay}
 use Rattle.replies.specs.Openings.{accepted, list_opening}
 use Rattle.answering.specs.Replies.{accepted_list, reported_list}
-use Rattle.model.specs.declared.Condition.{Condition}
-use Rattle.model.specs.declared.Condition.TheVariants.{NoProgram, On, Off}
+use Rattle.model.specs.declared.condition.Condition.{Condition}
+use Rattle.model.specs.declared.condition.Condition.TheVariants.{NoProgram, On, Off}
 use Rattle.model.specs.Model.{Setting, Program, Call, Answer, Input, issue, switch, depart, purge, packet, report, refused, done, program_stands}
 use Rattle.processor.specs.declared.calls.Operation.TheVariants.{Issue, Switch, Purge, Depart, Packet, Report}
 use Rattle.processor.specs.Conditions.{refusal, unless}

@@ -6,8 +6,8 @@ use Rattle.element.specs.Slots.{Slot}
 use Rattle.element.specs.Meanings.{Meaning}
 use Rattle.flights.specs.Flights.{Flight}
 use Rattle.lists.specs.Lists.{Reading, good, faulty, list_read}
-use Rattle.model.specs.declared.Condition.{Condition}
-use Rattle.model.specs.declared.Condition.TheVariants.{NoProgram, On, Off}
+use Rattle.model.specs.declared.condition.Condition.{Condition}
+use Rattle.model.specs.declared.condition.Condition.TheVariants.{NoProgram, On, Off}
 use Rattle.model.specs.Model.{Call, issue, switch, depart, purge, packet, report}
 use Rattle.histories.specs.Slots.{created}
 

@@ -6,7 +6,7 @@ use Rattle.element.specs.Slots.{Slot}
 use Rattle.flights.specs.Counts.{some}
 use Rattle.flights.specs.Flights.{holders}
 use Rattle.packets.specs.Laws.{SameTo}
-use Rattle.model.specs.declared.Condition.TheVariants.{NoProgram}
+use Rattle.model.specs.declared.condition.Condition.TheVariants.{NoProgram}
 use Rattle.model.specs.Model.{Setting, Program, Call, program_stands}
 use Rattle.histories.specs.Runs.{fresh, after, events}
 use Rattle.histories.specs.Callers.{shared}

@@ -2,7 +2,7 @@
 use Rattle.std.specs.Prelude.{◌≡◌, ℕ, List, [], ◌∷◌, map, vec_items}
 use Rattle.std.specs.List.{AllZip}
 use Rattle.calendar.specs.Days.{Days}
-use Rattle.model.specs.declared.Condition.TheVariants.{NoProgram}
+use Rattle.model.specs.declared.condition.Condition.TheVariants.{NoProgram}
 use Rattle.model.specs.Model.{Setting, Program, Call, Answer}
 use Rattle.processor.specs.Step.{step}
 use Rattle.histories.specs.declared.turn.Call.{Call as KeptCall}
@@ -22,7 +22,7 @@ made_by t = t.call
 abbrev pub Leaves : {S : Type 0} → KeptCall S → List ℕ → List ℕ → Type 0
 Leaves (Issue list) b b' = b' ≡ b
 Leaves (Switch on) b b' = b' ≡ b
-Leaves (Depart id departure arrival date) b b' = b' ≡ b
+Leaves (Depart flight) b b' = b' ≡ b
 Leaves Purge b b' = b' ≡ b
 Leaves (Packet sender input) b b' = Unit {0}
 Leaves (Report sender input) b b' = Unit {0}
@@ -50,7 +50,7 @@ pub record Ran {S : Type 0} (s : Setting S) (p p' : Program) (ts ts' : List (Tur
 abbrev pub numbered : {S : Type 0} → List (Turn S) → List (Turn S) → List (Event S)
 numbered [] ts' = []
 numbered (t ∷ ts) [] = []
-numbered (t ∷ ts) (t' ∷ ts') = record { call = call_of t; number = t'.number } ∷ numbered ts ts'
+numbered (t ∷ ts) (t' ∷ ts') = record { call = call_of t; number = t'.pair.0 } ∷ numbered ts ts'
 
 -- the laws, of turns ts that were run from the program p and became ts', with the program p' after them: where there was no
 -- program, the table that is there now and the ledger of the numbers that stand in the turns meet the second law; the first law

@@ -1,7 +1,7 @@
 -- A history is any list of the six calls, refused ones among them. These are the programs and the answers along it.
 use Rattle.std.specs.Prelude.{ℕ, List, [], ◌∷◌}
 use Rattle.calendar.specs.Days.{Days}
-use Rattle.model.specs.declared.Condition.TheVariants.{NoProgram}
+use Rattle.model.specs.declared.condition.Condition.TheVariants.{NoProgram}
 use Rattle.model.specs.Model.{Setting, Program, Call, Answer}
 use Rattle.processor.specs.Step.{step}
 

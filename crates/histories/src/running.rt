@@ -1,6 +1,5 @@
 ghost use Rattle.std.specs.Prelude.{◌≡◌};
-ghost use Rattle.model.specs.Model.{setting_of};
-ghost use Rattle.processor.specs.Kept.{program_of};
+ghost use Rattle.processor.specs.Held.{setting, program};
 ghost use Rattle.histories.specs.Running.{Makes, Taken, Ran, Lawful};
 
 use crate::turn::{Call, Turn};
@@ -16,19 +15,16 @@ fn make<R: Register + Drop, E: Element + Drop>(
 ) -> (u32, usize)
 where
     R::Sender: Drop,
-    ensures does { Makes (setting_of (R.Register.owner processor.old.register) (R.Register.carrier processor.old.register) (E.Element.means processor.old.element)) (program_of processor.old.condition (E.Element.span processor.old.element) processor.old.table) (program_of processor.new.condition (E.Element.span processor.new.element) processor.new.table) call.now result buffer.old buffer.new }
+    ensures does { Makes (setting processor.old) (program processor.old) (program processor.new) call.now result buffer.old buffer.new }
     ensures register { processor.new.register ≡ processor.old.register }
     ensures element { E.Element.means processor.new.element ≡ E.Element.means processor.old.element }
 {
+    // Kept: a match, since each call has other parts and answers its pair; a closure for each case would have
+    // to be made somewhere and handed on.
     match call {
         Call::Issue(list) => processor.issue(list),
         Call::Switch(on) => processor.switch(*on),
-        Call::Depart {
-            id,
-            departure,
-            arrival,
-            date,
-        } => processor.depart(id, departure, arrival, date),
+        Call::Depart(flight) => processor.depart(*flight),
         Call::Purge => processor.purge(),
         Call::Packet(sender, input) => processor.packet(sender, input, buffer),
         Call::Report(sender, input) => processor.report(sender, input, buffer),
@@ -42,13 +38,11 @@ fn take<'a, R: Register + Drop, E: Element + Drop>(
 )
 where
     R::Sender: Drop,
-    ensures takes { Taken (setting_of (R.Register.owner processor.old.register) (R.Register.carrier processor.old.register) (E.Element.means processor.old.element)) (program_of processor.old.condition (E.Element.span processor.old.element) processor.old.table) (program_of processor.new.condition (E.Element.span processor.new.element) processor.new.table) turn.old turn.new }
+    ensures takes { Taken (setting processor.old) (program processor.old) (program processor.new) turn.old turn.new }
     ensures register { processor.new.register ≡ processor.old.register }
     ensures element { E.Element.means processor.new.element ≡ E.Element.means processor.old.element }
 {
-    let (number, second) = make(processor, &turn.call, turn.buffer.as_mut_slice());
-    turn.number = number;
-    turn.second = second;
+    turn.pair = make(processor, &turn.call, turn.buffer.as_mut_slice());
 }
 
 /// Runs a history.
@@ -58,8 +52,8 @@ pub fn run<'a, R: Register + Drop, E: Element + Drop>(
 )
 where
     R::Sender: Drop,
-    ensures ran { Ran (setting_of (R.Register.owner processor.old.register) (R.Register.carrier processor.old.register) (E.Element.means processor.old.element)) (program_of processor.old.condition (E.Element.span processor.old.element) processor.old.table) (program_of processor.new.condition (E.Element.span processor.new.element) processor.new.table) turns.old turns.new }
-    ensures lawful { Lawful (setting_of (R.Register.owner processor.old.register) (R.Register.carrier processor.old.register) (E.Element.means processor.old.element)) (program_of processor.old.condition (E.Element.span processor.old.element) processor.old.table) (program_of processor.new.condition (E.Element.span processor.new.element) processor.new.table) turns.old turns.new }
+    ensures ran { Ran (setting processor.old) (program processor.old) (program processor.new) turns.old turns.new }
+    ensures lawful { Lawful (setting processor.old) (program processor.old) (program processor.new) turns.old turns.new }
     ensures register { processor.new.register ≡ processor.old.register }
     ensures element { E.Element.means processor.new.element ≡ E.Element.means processor.old.element }
 {

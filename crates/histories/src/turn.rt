@@ -1,15 +1,11 @@
+use calendar::FlightTexts;
+
 /// A call of a history, with all that it takes but the buffer.
 #[derive(Drop)]
 pub enum Call<'a, S: Drop> {
     Issue(&'a [u8]),
     Switch(bool),
-    /// The four texts that name a flight.
-    Depart {
-        id: &'a [u8],
-        departure: &'a [u8],
-        arrival: &'a [u8],
-        date: &'a [u8],
-    },
+    Depart(FlightTexts<'a>),
     Purge,
     Packet(S, &'a [u8]),
     Report(S, &'a [u8]),
@@ -20,6 +16,5 @@ pub enum Call<'a, S: Drop> {
 pub struct Turn<'a, S: Drop> {
     pub call: Call<'a, S>,
     pub buffer: Vec<u8>,
-    pub number: u32,
-    pub second: usize,
+    pub pair: (u32, usize),
 }

@@ -1,12 +1,14 @@
 -- A loop that fills a table from flight lines.
-use Rattle.std.proofs.Common.{◌≡◌, ℕ, suc, ◌+◌, true, false, cond, List, [], ◌∷◌, ◌++◌, length, Some, None, Option, sym, ap, ◌∙◌, append_assoc, append-nil, arith, length-append}
+use Rattle.std.proofs.Common.{◌≡◌, ℕ, suc, ◌+◌, Bool, true, false, cond, List, [], ◌∷◌, ◌++◌, length, Some, None, Option, sym, refl, ap, ◌∙◌, append_assoc, append-nil, arith, length-append}
 use Rattle.std.proofs.lemmas.Bool.{true≢false}
+use Rattle.std.proofs.lemmas.Option.{none-some}
 use Rattle.text.specs.Lines.{Line}
 use Rattle.calendar.specs.Days.{Days}
 use Rattle.element.specs.Meanings.{Meaning}
 use Rattle.flights.specs.Flights.{Flight}
+use Rattle.flights.specs.Standing.{joins}
 use Rattle.lists.specs.FlightLines.{flight_read}
-use Rattle.lists.specs.Lists.{is_valid, with_flight, first_fault, in_front, listed}
+use Rattle.lists.specs.Lists.{is_valid, where_valid, with_flight, first_fault, in_front, listed}
 
 -- the flights so far and the lines to come, against the fault and the flights of the whole
 pub record Going (e : Meaning) (d : Days) (before : List Flight) (ls : List Line) (fault : Option ℕ) (all : List Flight) : Type 0 where
@@ -16,11 +18,32 @@ pub record Going (e : Meaning) (d : Days) (before : List Flight) (ls : List Line
 pub going_start : (e : Meaning) (d : Days) (before : List Flight) (ls : List Line) → before ≡ [] → Going e d before ls (first_fault e d 2 [] ls) (listed e d ls)
 going_start e d before ls h = record { faults = rw h; flights = rw h }
 
+-- where a line is valid, and where it is not
+module _ (e : Meaning) (before : List Flight) where
+  refused : (f : Flight) (b : Bool) → joins e before f ≡ b → cond b (Some f) None ≡ None → joins e before f ≡ false
+  refused f true k h = absurd (none-some f (sym h))
+  refused f false k h = k
+
+  faulty_line : (o : Option Flight) → where_valid e before o ≡ None → is_valid e before o ≡ false
+  faulty_line None h = refl
+  faulty_line (Some f) h = refused f (joins e before f) refl h
+
+  kept : (x f : Flight) (b : Bool) → joins e before x ≡ b → cond b (Some x) None ≡ Some f → (◌≡◌ {A = Option Flight} (Some x) (Some f)) × (joins e before x ≡ true)
+  kept x f true k h = (h, k)
+  kept x f false k h = absurd (none-some f h)
+
+  -- a valid line says its flight
+  pub valid_line : (o : Option Flight) (f : Flight) → where_valid e before o ≡ Some f → (o ≡ Some f) × (is_valid e before o ≡ true)
+  valid_line None f h = absurd (none-some f h)
+  valid_line (Some x) f h = kept x f (joins e before x) refl h
+
+  pub valid_joins : (o : Option Flight) (f : Flight) → where_valid e before o ≡ Some f → joins e before f ≡ true
+  valid_joins o f h = let v = valid_line o f h in sym (ap (is_valid e before) v.0) ∙ v.1
+
 -- a line that is faulty
-pub going_fault : (e : Meaning) (d : Days) (before after : List Flight) (ls rest : List Line) (l : Line) (fault : Option ℕ) (all : List Flight) → Going e d before ls fault all → ls ≡ l ∷ rest → false ≡ is_valid e before (flight_read e d l) → after ≡ before → Some (length after + 2) ≡ fault
-going_fault e d before after ls rest l fault all g h v same =
-    ap (λ (fs : List Flight). Some (length fs + 2)) same
-    ∙ sym (ap (λ b. cond b (first_fault e d (suc (length before + 2)) (with_flight before (flight_read e d l)) rest) (Some (length before + 2))) (sym v))
+pub going_fault : (e : Meaning) (d : Days) (before : List Flight) (ls rest : List Line) (l : Line) (fault : Option ℕ) (all : List Flight) → Going e d before ls fault all → ls ≡ l ∷ rest → where_valid e before (flight_read e d l) ≡ None → Some (length before + 2) ≡ fault
+going_fault e d before ls rest l fault all g h v =
+    sym (ap (λ b. cond b (first_fault e d (suc (length before + 2)) (with_flight before (flight_read e d l)) rest) (Some (length before + 2))) (faulty_line e before (flight_read e d l) v))
     ∙ sym (ap (first_fault e d (length before + 2) before) h)
     ∙ g.faults
 
@@ -37,14 +60,16 @@ with_valid e d before rest (Some f) fault all v p q = record {
 }
 
 -- a line that is valid
-pub going_turn : (e : Meaning) (d : Days) (before after : List Flight) (ls rest : List Line) (l : Line) (fault : Option ℕ) (all : List Flight) → Going e d before ls fault all → ls ≡ l ∷ rest → true ≡ is_valid e before (flight_read e d l) → after ≡ with_flight before (flight_read e d l) → Going e d after rest fault all
-going_turn e d before after ls rest l fault all g h v same =
-    let w = with_valid e d before rest (flight_read e d l) fault all (sym v)
+pub going_turn : (e : Meaning) (d : Days) (before after : List Flight) (ls rest : List Line) (l : Line) (f : Flight) (fault : Option ℕ) (all : List Flight) → Going e d before ls fault all → ls ≡ l ∷ rest → where_valid e before (flight_read e d l) ≡ Some f → after ≡ before ++ f ∷ [] → Going e d after rest fault all
+going_turn e d before after ls rest l f fault all g h valid same =
+    let v = valid_line e before (flight_read e d l) f valid in
+    let w = with_valid e d before rest (flight_read e d l) fault all v.1
     (sym (ap (first_fault e d (length before + 2) before) h) ∙ g.faults)
     (sym (ap (λ (k : List Line). before ++ listed e d k) h) ∙ g.flights) in
+    let now : after ≡ with_flight before (flight_read e d l) = same ∙ sym (ap (with_flight before) v.0) in
     record {
-      faults = ap (λ (fs : List Flight). first_fault e d (length fs + 2) fs rest) same ∙ w.faults;
-      flights = ap (λ (fs : List Flight). fs ++ listed e d rest) same ∙ w.flights;
+      faults = ap (λ (fs : List Flight). first_fault e d (length fs + 2) fs rest) now ∙ w.faults;
+      flights = ap (λ (fs : List Flight). fs ++ listed e d rest) now ∙ w.flights;
     }
 
 -- no line is left

@@ -7,7 +7,7 @@ use Rattle.calendar.specs.Days.{Days, Minute, time_read}
 use Rattle.element.specs.Slots.{Slot}
 use Rattle.element.specs.Meanings.{Meaning, name_read}
 use Rattle.flights.specs.declared.flight.ControlType.{ControlType}
-use Rattle.flights.specs.declared.flight.ControlType.TheVariants.{Gdp, Comp, Blkt, Gs, Sub, Fa, Upd}
+use Rattle.flights.specs.Words.{type_read}
 
 -- ACID, ASLOT, DEP, ARR, CTD, CTA, TYPE, EX, CX, SH, ERTA (or the element's word for it) and IGTD
 pub record Columns : Type 0 where
@@ -52,25 +52,21 @@ columns_read l =
 abbrev pub is_absent : List ℕ → Bool
 is_absent t = bytes_eq t (codes "-")
 
+-- what a column says, where it is not absent
+abbrev pub given_read : {X : Type 0} → Option X → List ℕ → Option (Option X)
+given_read said t = cond (is_absent t) (Some None) (option_map Some said)
+
 -- a slot name of the element, or none
 abbrev pub slot_read : Meaning → Days → List ℕ → Option (Option Slot)
-slot_read e d t = cond (is_absent t) (Some None) (option_map Some (name_read (e.slot_name d) t))
+slot_read e d t = given_read (name_read (e.slot_name d) t) t
 
 -- a time, or none
 abbrev pub erta_read : Days → List ℕ → Option (Option Minute)
-erta_read d t = cond (is_absent t) (Some None) (option_map Some (time_read d t))
+erta_read d t = given_read (time_read d t) t
 
 -- one of the seven types, or none for an uncontrolled flight
 abbrev pub control_read : List ℕ → Option (Option ControlType)
-control_read t =
-    cond (is_absent t) (Some None)
-    (cond (bytes_eq t (codes "GDP")) (Some (Some Gdp))
-    (cond (bytes_eq t (codes "COMP")) (Some (Some Comp))
-    (cond (bytes_eq t (codes "BLKT")) (Some (Some Blkt))
-    (cond (bytes_eq t (codes "GS")) (Some (Some Gs))
-    (cond (bytes_eq t (codes "SUB")) (Some (Some Sub))
-    (cond (bytes_eq t (codes "FA")) (Some (Some Fa))
-    (cond (bytes_eq t (codes "UPD")) (Some (Some Upd)) None)))))))
+control_read t = given_read (type_read t) t
 
 -- a mark is "Y", or "-" where it is not set
 abbrev pub mark_read : List ℕ → Option Bool

@@ -21,6 +21,10 @@ abbrev pub is_valid : Meaning → List Flight → Option Flight → Bool
 is_valid e before None = false
 is_valid e before (Some f) = joins e before f
 
+-- the flight of a line, where the line is valid
+abbrev pub where_valid : Meaning → List Flight → Option Flight → Option Flight
+where_valid e before o = cond (is_valid e before o) o None
+
 abbrev pub with_flight : List Flight → Option Flight → List Flight
 with_flight before None = before
 with_flight before (Some f) = before ++ f ∷ []

@@ -1,31 +1,36 @@
-ghost use Rattle.std.specs.Prelude.{◌≡◌, if◌then◌else◌};
+ghost use Rattle.std.specs.Prelude.{◌≡◌};
 ghost use Rattle.std.specs.Option.{option_map};
 ghost use Rattle.text.specs.Lines.{line_of};
 ghost use Rattle.calendar.specs.Days.{days_of};
 ghost use Rattle.flights.specs.Kept.{flight_of, flights_of};
 ghost use Rattle.lists.specs.FlightLines.{flight_from, flight_read};
-ghost use Rattle.lists.specs.Lists.{is_valid, with_flight};
+ghost use Rattle.lists.specs.Lists.{where_valid};
 ghost use Rattle.lists.specs.Kept.{columns_of};
 
 use crate::columns::{Columns, read_columns, read_control, read_erta, read_mark, read_slot};
-use calendar::{Days, Identity};
-use element::Element;
+use calendar::{FlightTexts, Identity};
+use element::{Element, Naming};
 use flights::{Flight, Table};
 use text::Line;
 
 /// The flight of twelve columns.
-fn flight_from<E: Element>(element: &E, days: &Days, columns: Columns) -> Option<Flight>
-    ensures { option_map flight_of result ≡ flight_from (E.Element.means element.now) (days_of days.now) (columns_of columns.entry) }
+fn flight_from<E: Element>(naming: &Naming<E>, columns: Columns) -> Option<Flight>
+    ensures { option_map flight_of result ≡ flight_from (E.Element.means naming.now.element.now) (days_of naming.now.days) (columns_of columns.entry) }
 {
-    let identity = Identity::read(columns.id, columns.departure, columns.arrival, columns.date)?;
-    let slot = read_slot(element, days, columns.slot)?;
-    let ctd = days.read_time(columns.ctd)?;
-    let cta = days.read_time(columns.cta)?;
+    let identity = Identity::read(FlightTexts {
+        id: columns.id,
+        departure: columns.departure,
+        arrival: columns.arrival,
+        date: columns.date,
+    })?;
+    let slot = read_slot(naming, columns.slot)?;
+    let ctd = naming.read_time(columns.ctd)?;
+    let cta = naming.read_time(columns.cta)?;
     let control = read_control(columns.control)?;
     let exempt = read_mark(columns.exempt)?;
     let cancelled = read_mark(columns.cancelled)?;
     let hold = read_mark(columns.hold)?;
-    let erta = read_erta(days, columns.erta)?;
+    let erta = read_erta(naming, columns.erta)?;
     Some(Flight {
         identity,
         slot,
@@ -41,24 +46,20 @@ fn flight_from<E: Element>(element: &E, days: &Days, columns: Columns) -> Option
 }
 
 /// The flight that a line lists.
-fn read_flight<E: Element>(element: &E, days: &Days, line: Line) -> Option<Flight>
-    ensures { option_map flight_of result ≡ flight_read (E.Element.means element.now) (days_of days.now) (line_of line.entry) }
+fn read_flight<E: Element>(naming: &Naming<E>, line: Line) -> Option<Flight>
+    ensures { option_map flight_of result ≡ flight_read (E.Element.means naming.now.element.now) (days_of naming.now.days) (line_of line.entry) }
 {
-    let columns = read_columns(line)?;
-    flight_from(element, days, columns)
+    flight_from(naming, read_columns(line)?)
 }
 
-/// Adds the flight of a line to those of the lines before it, where the line is valid.
-pub fn add_line<E: Element>(table: &mut Table, element: &E, days: &Days, line: Line) -> bool
-    ensures told { result ≡ is_valid (E.Element.means element.now) (flights_of table.old) (flight_read (E.Element.means element.now) (days_of days.now) (line_of line.entry)) }
-    ensures flights { flights_of table.new ≡ (if result then with_flight (flights_of table.old) (flight_read (E.Element.means element.now) (days_of days.now) (line_of line.entry)) else flights_of table.old) }
+/// The flight that a line lists, where it keeps the rules beside those of the lines before it.
+pub fn valid_flight<E: Element>(table: &Table, naming: &Naming<E>, line: Line) -> Option<Flight>
+    ensures { option_map flight_of result ≡ where_valid (E.Element.means naming.now.element.now) (flights_of table.now) (flight_read (E.Element.means naming.now.element.now) (days_of naming.now.days) (line_of line.entry)) }
 {
-    let Some(flight) = read_flight(element, days, line) else {
-        return false;
-    };
-    if !table.admits(element, &flight) {
-        return false;
+    let flight = read_flight(naming, line)?;
+    if table.admits(naming.element, &flight) {
+        Some(flight)
+    } else {
+        None
     }
-    table.add(flight);
-    true
 }

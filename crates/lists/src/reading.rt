@@ -1,4 +1,4 @@
-ghost use Rattle.std.specs.Prelude.{◌≡◌, ℕ, List, [], None};
+ghost use Rattle.std.specs.Prelude.{◌≡◌, List, [], Some, None, IfOk, IfErr};
 ghost use Rattle.std.specs.Option.{option_map};
 ghost use Rattle.text.specs.Lines.{line_of, lines, lines_left};
 ghost use Rattle.calendar.specs.Days.{days_of};
@@ -6,39 +6,48 @@ ghost use Rattle.flights.specs.Kept.{flights_of};
 ghost use Rattle.lists.specs.Lists.{heading_read, first_fault, listed, list_read};
 ghost use Rattle.lists.specs.Kept.{Gave};
 
-use crate::flight_lines::add_line;
+use crate::flight_lines::valid_flight;
 use calendar::Days;
-use element::Element;
+use element::{Element, Naming};
 use flights::Table;
-use text::{Line, Lines, count_fields, field_at, same};
+use text::{Fields, Line, Lines};
 
 /// The days of a heading.
 fn read_heading<E: Element>(element: &E, line: Line) -> Option<Days>
     ensures { option_map days_of result ≡ heading_read (E.Element.means element.now) (line_of line.entry) }
 {
-    let text = line.text;
-    if !line.readable || count_fields(text) != 4 {
+    let mut fields = Fields::new(line.text);
+    let word = fields.next()?;
+    let name = fields.next()?;
+    let base = fields.next()?;
+    let month = fields.next()?;
+    if !line.readable || fields.next().is_some() {
         return None;
     }
-    if !same(field_at(text, 0), b"ISSUE") || !same(field_at(text, 1), element.name()) {
-        return None;
+    if word == b"ISSUE".as_slice() && name == element.name() {
+        Days::read(base, month)
+    } else {
+        None
     }
-    Days::read(field_at(text, 2), field_at(text, 3))
 }
 
-/// Fills an empty table from flight lines, up to the first faulty one, and says its number.
-fn fill<E: Element>(table: &mut Table, element: &E, days: &Days, start: Lines) -> Option<usize>
+/// Fills an empty table from flight lines. At a faulty one, gives the number of the first, with the
+/// table empty again.
+// Kept: a number for an error, since it is the number of a line and stands for no kind.
+fn fill<E: Element>(table: &mut Table, naming: &Naming<E>, lines: Lines) -> Result<(), usize>
     requires { flights_of table.old ≡ [] }
-    ensures fault { result ≡ first_fault (E.Element.means element.now) (days_of days.now) 2 [] (lines_left start.entry) }
-    ensures flights { result ≡ None → flights_of table.new ≡ listed (E.Element.means element.now) (days_of days.now) (lines_left start.entry) }
+    ensures filled { IfOk result (λ _. (first_fault (E.Element.means naming.now.element.now) (days_of naming.now.days) 2 [] (lines_left lines.entry) ≡ None) × (flights_of table.new ≡ listed (E.Element.means naming.now.element.now) (days_of naming.now.days) (lines_left lines.entry))) }
+    ensures fault { IfErr result (λ n. (first_fault (E.Element.means naming.now.element.now) (days_of naming.now.days) 2 [] (lines_left lines.entry) ≡ Some n) × (flights_of table.new ≡ [])) }
 {
-    let mut rest = start;
-    while let Some(line) = rest.next_line() {
-        if !add_line(table, element, days, line) {
-            return Some(table.len() + 2);
-        }
+    for line in lines {
+        let Some(flight) = valid_flight(table, naming, line) else {
+            let number = table.len() + 2;
+            table.clear();
+            return Err(number);
+        };
+        table.add(flight);
     }
-    None
+    Ok(())
 }
 
 /// Reads an issue list into the table: its days, or the number of its first faulty line, the
@@ -47,18 +56,9 @@ pub fn read_list<E: Element>(table: &mut Table, element: &E, input: &[u8]) -> Re
     ensures { Gave (list_read (E.Element.means element.now) (lines input.now)) result (flights_of table.new) }
 {
     table.clear();
-    let mut rest = Lines::new(input);
-    let Some(heading) = rest.next_line() else {
-        return Err(1);
-    };
-    let Some(days) = read_heading(element, heading) else {
-        return Err(1);
-    };
-    match fill(table, element, &days, rest) {
-        None => Ok(days),
-        Some(line) => {
-            table.clear();
-            Err(line)
-        }
-    }
+    let mut lines = Lines::new(input);
+    let heading = lines.next().ok_or(1usize)?;
+    let days = read_heading(element, heading).ok_or(1usize)?;
+    fill(table, &Naming { element, days }, lines)?;
+    Ok(days)
 }

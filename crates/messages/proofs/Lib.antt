@@ -1,2 +1,1 @@
-mod Identifiers
 mod TagSteps

@@ -1,12 +1,14 @@
 -- Packets of the code, as the definitions see them.
-use Rattle.std.specs.Prelude.{◌≡◌, ℕ, List, [], ◌∷◌, Some, None, Ok, Err, Option, Result}
+use Rattle.std.specs.Prelude.{ℕ, List, [], ◌∷◌, Some, None, Ok, Err, Option, Result}
 use Rattle.std.specs.Option.{option_map}
+use Rattle.text.specs.Lines.{fields_left}
 use Rattle.text.specs.Parts.{at}
 use Rattle.text.specs.Short.{text_of}
 use Rattle.messages.specs.declared.header.Identifier.{Identifier}
 use Rattle.messages.specs.declared.tags.Tag.{Tag}
 use Rattle.messages.specs.declared.tags.Tag.TheVariants.{T5, T6, T8, A2, SH}
 use Rattle.messages.specs.declared.tags.Tags.{Tags as LentTags}
+use Rattle.messages.specs.declared.tags.TagFields.{TagFields}
 use Rattle.messages.specs.declared.tags.Unreadable.{Unreadable}
 use Rattle.messages.specs.declared.message.Written.{Written as LentWritten}
 use Rattle.messages.specs.Messages.{Said, t5, t6, t8, a2, sh, tag_read, Tags, Written}
@@ -30,30 +32,23 @@ abbrev pub written_of : LentWritten → Written
 written_of w =
     record {
       kind = w.kind;
-      id = w.id.now;
-      departure = w.departure.now;
-      arrival = w.arrival.now;
-      date = w.date.now;
+      id = w.flight.id.now;
+      departure = w.flight.departure.now;
+      arrival = w.flight.arrival.now;
+      date = w.flight.date.now;
       tags = tags_of w.tags;
     }
 
--- one tag off the fields to come: there is none, it cannot be read, or it is this one, before these fields
-pub data Next : Type 0 where
-  end : Next
-  bad : Next
-  got : Said → List (List ℕ) → Next
+-- the tags that fields are, two to a tag: none where a word is no tag, or has no value
+abbrev pub tags_read : List (List ℕ) → List (Option Said)
+tags_read [] = []
+tags_read (w ∷ []) = None ∷ []
+tags_read (w ∷ v ∷ rest) = tag_read w v ∷ tags_read rest
 
-abbrev pub next_of : Option Said → List (List ℕ) → Next
-next_of None rest = bad
-next_of (Some t) rest = got t rest
+-- what a cursor over tags has yet to give, and what it gives
+abbrev pub tags_left : TagFields → List (Option Said)
+tags_left c = tags_read (fields_left c.fields)
 
-abbrev pub next_tag : List (List ℕ) → Next
-next_tag [] = end
-next_tag (w ∷ []) = bad
-next_tag (w ∷ v ∷ rest) = next_of (tag_read w v) rest
-
--- a cursor gave a tag, was at its end, or could not read
-abbrev pub GivesTag : List (List ℕ) → Result (Option Tag) Unreadable → List (List ℕ) → Type 0
-GivesTag before (Ok None) after = (next_tag before ≡ end) × (after ≡ [])
-GivesTag before (Ok (Some t)) after = next_tag before ≡ got (said_of t) after
-GivesTag before (Err e) after = next_tag before ≡ bad
+abbrev pub said_in : Result Tag Unreadable → Option Said
+said_in (Ok t) = Some (said_of t)
+said_in (Err e) = None

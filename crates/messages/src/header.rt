@@ -5,9 +5,7 @@ ghost use Rattle.calendar.specs.Identities.{text_where};
 ghost use Rattle.messages.specs.Headers.{is_identifier, header_read};
 ghost use Rattle.messages.specs.Kept.{identifier_of};
 
-use text::{
-    Line, ShortText, all_capitals, all_capitals_or_digits, all_digits, count_fields, field_at, same,
-};
+use text::{Fields, Line, ShortText, all_capitals, all_capitals_or_digits, all_digits};
 
 /// The identifier of a packet, made only by reading one.
 #[derive(Clone, Copy)]
@@ -19,10 +17,11 @@ pub struct Identifier {
 fn is_identifier(text: &[u8]) -> bool
     ensures { result ≡ is_identifier text.now }
 {
-    if text.len() != 16 || text[13] != b'.' || !all_capitals(&text[0..3]) {
-        return false;
-    }
-    all_digits(&text[3..13]) && all_capitals_or_digits(&text[14..])
+    text.len() == 16
+        && all_capitals(&text[..3])
+        && all_digits(&text[3..13])
+        && text[13] == b'.'
+        && all_capitals_or_digits(&text[14..])
 }
 
 impl Identifier {
@@ -50,9 +49,9 @@ impl Identifier {
 pub fn read_header<'a>(line: Line<'a>) -> Option<Identifier>
     ensures { option_map identifier_of result ≡ header_read (line_of line.entry) }
 {
-    let text = line.text;
-    if !line.readable || count_fields(text) != 2 || !same(field_at(text, 0), b"SS") {
-        return None;
+    let mut fields = Fields::new(line.text);
+    match (fields.next(), fields.next(), fields.next()) {
+        (Some(b"SS"), Some(id), None) if line.readable => Identifier::read(id),
+        _ => None,
     }
-    Identifier::read(field_at(text, 1))
 }

@@ -1,17 +1,19 @@
-ghost use Rattle.std.specs.Prelude.{◌≡◌, Some};
+ghost use Rattle.std.specs.Prelude.{◌≡◌};
+ghost use Rattle.std.specs.Iterator.{YieldsFirstBy, item_count};
 ghost use Rattle.std.specs.Option.{option_map};
 ghost use Rattle.text.specs.Lines.{fields_left};
-ghost use Rattle.messages.specs.Messages.{tag_read, hold_read, with_hold, with_tag, tags_from, no_tags, takes};
-ghost use Rattle.messages.specs.Kept.{said_of, tags_of, GivesTag};
+ghost use Rattle.messages.specs.Messages.{tag_read, hold_read, with_tag, tags_from, no_tags, takes};
+ghost use Rattle.messages.specs.Kept.{said_of, said_in, tags_of, tags_left};
 
 use crate::kind::MessageType;
-use text::{Fields, same};
+use text::Fields;
 
 /// A field that is no tag, or a tag without its value.
-#[derive(Clone, Copy)]
+#[derive(Clone, Copy, Debug, PartialEq, Eq)]
 struct Unreadable;
 
 /// A tag with its value, a part of the line.
+// Kept: the project's rules ask for this enum, whose cases hold parts of the line.
 #[derive(Clone, Copy)]
 enum Tag<'a> {
     T5(&'a [u8]),
@@ -25,10 +27,10 @@ enum Tag<'a> {
 fn read_hold(value: &[u8]) -> Option<bool>
     ensures { result ≡ hold_read value.now }
 {
-    if value.len() != 1 {
+    let [letter] = value else {
         return None;
-    }
-    match char::from(value[0]) {
+    };
+    match char::from(*letter) {
         'Y' => Some(true),
         'N' => Some(false),
         _ => None,
@@ -38,42 +40,35 @@ fn read_hold(value: &[u8]) -> Option<bool>
 fn read_tag<'a>(word: &[u8], value: &'a [u8]) -> Option<Tag<'a>>
     ensures { option_map said_of result ≡ tag_read word.now value.now }
 {
-    if same(word, b"T5") {
-        Some(Tag::T5(value))
-    } else if same(word, b"T6") {
-        Some(Tag::T6(value))
-    } else if same(word, b"T8") {
-        Some(Tag::T8(value))
-    } else if same(word, b"A2") {
-        Some(Tag::A2(value))
-    } else if same(word, b"SH") {
-        Some(Tag::SH(value))
-    } else {
-        None
+    match word {
+        b"T5" => Some(Tag::T5(value)),
+        b"T6" => Some(Tag::T6(value)),
+        b"T8" => Some(Tag::T8(value)),
+        b"A2" => Some(Tag::A2(value)),
+        b"SH" => Some(Tag::SH(value)),
+        _ => None,
     }
 }
 
-/// The fields of tags, two to a tag.
+/// The tags of a line, read one at a time off the fields left, two to a tag.
 #[derive(Clone, Copy)]
 struct TagFields<'a> {
     fields: Fields<'a>,
 }
 
-impl<'a> TagFields<'a> {
-    /// The next tag, and none at the end of the line.
-    fn next_tag(&mut self) -> Result<Option<Tag<'a>>, Unreadable>
-        ensures { GivesTag (fields_left self.old.fields) result (fields_left self.new.fields) }
-    {
-        let Some(word) = self.fields.next_field() else {
-            return Ok(None);
+impl<'a> Iterator for TagFields<'a> {
+    type Item = Result<Tag<'a>, Unreadable>;
+
+    ghost next_gives = { YieldsFirstBy said_in tags_left };
+
+    ghost remaining = { item_count tags_left };
+
+    fn next(&mut self) -> Option<Result<Tag<'a>, Unreadable>> {
+        let word = self.fields.next()?;
+        let Some(value) = self.fields.next() else {
+            return Some(Err(Unreadable));
         };
-        let Some(value) = self.fields.next_field() else {
-            return Err(Unreadable);
-        };
-        match read_tag(word, value) {
-            Some(tag) => Ok(Some(tag)),
-            None => Err(Unreadable),
-        }
+        Some(read_tag(word, value).ok_or(Unreadable))
     }
 }
 
@@ -88,57 +83,18 @@ pub struct Tags<'a> {
 }
 
 impl<'a> Tags<'a> {
-    /// With an SH, where there is none yet.
-    fn with_hold(self, hold: bool) -> Option<Tags<'a>>
-        ensures { option_map tags_of result ≡ with_hold (tags_of self.entry) (Some hold) }
-    {
-        match self.hold {
-            None => Some(Tags {
-                hold: Some(hold),
-                ..self
-            }),
-            Some(_) => None,
-        }
-    }
-
     /// With one more tag, where it is not there yet.
-    fn with(self, tag: Tag<'a>) -> Option<Tags<'a>>
+    fn with(mut self, tag: Tag<'a>) -> Option<Tags<'a>>
         ensures { option_map tags_of result ≡ with_tag (tags_of self.entry) (said_of tag.entry) }
     {
-        match tag {
-            Tag::T5(v) => match self.ctd {
-                None => Some(Tags {
-                    ctd: Some(v),
-                    ..self
-                }),
-                Some(_) => None
-            },
-            Tag::T6(v) => match self.cta {
-                None => Some(Tags {
-                    cta: Some(v),
-                    ..self
-                }),
-                Some(_) => None
-            },
-            Tag::T8(v) => match self.erta {
-                None => Some(Tags {
-                    erta: Some(v),
-                    ..self
-                }),
-                Some(_) => None
-            },
-            Tag::A2(v) => match self.slot {
-                None => Some(Tags {
-                    slot: Some(v),
-                    ..self
-                }),
-                Some(_) => None
-            },
-            Tag::SH(v) => match read_hold(v) {
-                Some(hold) => self.with_hold(hold),
-                None => None,
-            },
-        }
+        let earlier = match tag {
+            Tag::T5(v) => self.ctd.replace(v).is_some(),
+            Tag::T6(v) => self.cta.replace(v).is_some(),
+            Tag::T8(v) => self.erta.replace(v).is_some(),
+            Tag::A2(v) => self.slot.replace(v).is_some(),
+            Tag::SH(v) => self.hold.replace(read_hold(v)?).is_some(),
+        };
+        if earlier { None } else { Some(self) }
     }
 
     /// Whether a message of the type takes these tags.
@@ -159,9 +115,11 @@ impl<'a> Tags<'a> {
 }
 
 /// The tags that the fields left are, two to a tag.
+#[tactic(auto, using(crate::proofs::TagSteps::with_all_read))]
 pub(crate) fn read_tags<'a>(fields: Fields<'a>) -> Option<Tags<'a>>
     ensures { option_map tags_of result ≡ tags_from no_tags (fields_left fields.entry) }
 {
+    // Kept: `Tags::default()` here leaves the loop without a proof: the borrow checker doesn't cover it.
     let mut tags = Tags {
         ctd: None,
         cta: None,
@@ -169,15 +127,8 @@ pub(crate) fn read_tags<'a>(fields: Fields<'a>) -> Option<Tags<'a>>
         slot: None,
         hold: None,
     };
-    let mut left = TagFields { fields };
-    while let Some(tag) = match left.next_tag() {
-        Ok(t) => t,
-        Err(_) => return None,
-    } {
-        let Some(more) = tags.with(tag) else {
-            return None;
-        };
-        tags = more;
+    for tag in (TagFields { fields }) {
+        tags = tags.with(tag.ok()?)?;
     }
     Some(tags)
 }

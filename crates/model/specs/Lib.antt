@@ -1,1 +1,3 @@
 pub mod Model
+pub mod Refusals
+pub mod Words

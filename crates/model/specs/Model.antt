@@ -6,8 +6,8 @@ use Rattle.calendar.specs.Days.{Days}
 use Rattle.element.specs.Meanings.{Meaning}
 use Rattle.flights.specs.Flights.{Flight}
 use Rattle.flights.specs.Standing.{table_stands}
-use Rattle.model.specs.declared.Condition.{Condition}
-use Rattle.model.specs.declared.Condition.TheVariants.{NoProgram, On, Off}
+use Rattle.model.specs.declared.condition.Condition.{Condition}
+use Rattle.model.specs.declared.condition.Condition.TheVariants.{NoProgram, On, Off}
 
 -- what never changes over a history, where S is the register's kind of sender: which user a sender is, which user a carrier
 -- code belongs to, and the element but for its days

@@ -2,10 +2,8 @@
 
 #![tactic(auto)]
 
-/// The condition of a program: there is none, it is on, or it is off.
-#[derive(Clone, Copy, PartialEq, Eq)]
-pub enum Condition {
-    NoProgram,
-    On,
-    Off,
-}
+mod condition;
+mod refusal;
+
+pub use condition::Condition;
+pub use refusal::Refusal;

@@ -22,23 +22,21 @@ by_test false f g = g refl
 pub identity_true : (a b : Identity) → same_identity a b ≡ true → a ≡ b
 unfolding identity_made
 identity_true a b h =
-    let p = and_parts _ (bytes_eq a.date b.date) h in
-    let q = and_parts _ (bytes_eq a.arrival b.arrival) p.0 in
-    let r = and_parts (bytes_eq a.id b.id) _ q.0 in
-    let id = (bytes_eq-Decides a.id b.id).0 r.0 in
-    let departure = (bytes_eq-Decides a.departure b.departure).0 r.1 in
-    let arrival = (bytes_eq-Decides a.arrival b.arrival).0 q.1 in
-    let date = (bytes_eq-Decides a.date b.date).0 p.1 in
+    let p = and_parts (bytes_eq a.id b.id) _ h in
+    let q = and_parts (bytes_eq a.departure b.departure) _ p.1 in
+    let r = and_parts (bytes_eq a.arrival b.arrival) _ q.1 in
+    let id = (bytes_eq-Decides a.id b.id).0 p.0 in
+    let departure = (bytes_eq-Decides a.departure b.departure).0 q.0 in
+    let arrival = (bytes_eq-Decides a.arrival b.arrival).0 r.0 in
+    let date = (bytes_eq-Decides a.date b.date).0 r.1 in
     let same : identity_made a.id a.departure a.arrival a.date ≡ identity_made b.id b.departure b.arrival b.date = cc in
     same
 
 pub identity_refl : (a : Identity) → same_identity a a ≡ true
 identity_refl a =
-    and_from _ _
-    (and_from _ _
-    (and_from _ _ ((bytes_eq-Decides a.id a.id).1 refl) ((bytes_eq-Decides a.departure a.departure).1 refl))
-    ((bytes_eq-Decides a.arrival a.arrival).1 refl))
-    ((bytes_eq-Decides a.date a.date).1 refl)
+    and_from _ _ ((bytes_eq-Decides a.id a.id).1 refl)
+    (and_from _ _ ((bytes_eq-Decides a.departure a.departure).1 refl)
+    (and_from _ _ ((bytes_eq-Decides a.arrival a.arrival).1 refl) ((bytes_eq-Decides a.date a.date).1 refl)))
 
 pub slot_true : (a b : Slot) → same_slot a b ≡ true → a ≡ b
 unfolding slot_made

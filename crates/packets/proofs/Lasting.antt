@@ -7,8 +7,8 @@ use Rattle.element.specs.Meanings.{Meaning}
 use Rattle.flights.specs.Counts.{bump}
 use Rattle.flights.specs.Flights.{Flight, bearers, holders}
 use Rattle.flights.specs.Standing.{slot_fits_type, flight_stands, table_stands}
-use Rattle.model.specs.declared.Condition.{Condition}
-use Rattle.model.specs.declared.Condition.TheVariants.{NoProgram, On, Off}
+use Rattle.model.specs.declared.condition.Condition.{Condition}
+use Rattle.model.specs.declared.condition.Condition.TheVariants.{NoProgram, On, Off}
 use Rattle.model.specs.Model.{Setting, Program, none_without}
 use Rattle.packets.specs.Messages.{Message, message_read}
 use Rattle.packets.specs.StageTwo.{count}

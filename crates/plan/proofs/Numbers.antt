@@ -1,45 +1,78 @@
--- Loops that look for a number that is not 0.
-use Rattle.std.proofs.Common.{◌≡◌, ℕ, zero, suc, ◌+◌, ◌<◌, true, false, ◌&&◌, eqb, List, ◌∷◌, map, length, get_or, drop, sym, refl, ap, ◌∙◌, add-one, arith, drop-cons}
-use lib.Seq.{drop-length}
+-- The first fault of rows.
+use Rattle.std.proofs.Common.{◌≡◌, ℕ, zero, suc, true, false, not, ◌&&◌, cond, eqb, List, [], ◌∷◌, map, Some, None, Option, Ok, Err, Result, sym, refl, ap, ◌∙◌, arith}
+use Rattle.std.proofs.lemmas.Bool.{ne_eqb}
+use Rattle.std.specs.List.{find}
+use Rattle.std.specs.Option.{is_some, option_and_then}
+use Rattle.std.specs.Result.{result_err}
 use Rattle.packets.specs.Verdict.{all_pass, first_number}
+use Rattle.model.specs.declared.refusal.Refusal.{Refusal}
+use Rattle.model.specs.declared.refusal.Refusal.TheVariants.{SmallBuffer, LongInput, NoHeader, LineCount, UnknownSender, NoProgram, ProgramOff, NoRequest, NoMessage, Untimely, Incomplete, NoSlotName, NoFlight, NotOwned, Uncontrolled, Controlled, Departed, OnPopUp, OffSlot, OffMinute, EteUnfit, SlotHeld, Repeated, Unheld, Claimed, Stranded, FaultyList, ProgramThere}
+use Rattle.model.specs.Refusals.{number, number_or_zero, number_of as fault_number}
+use Rattle.plan.specs.declared.row.Row.{Row as KeptRow}
+use Rattle.plan.specs.Rows.{number_of}
 
--- a loop that looks for a number that is not 0
-module _ {X : Type 0} (f : X → ℕ) where
-  pass_more : (x : X) (xs : List X) → all_pass (map f (x ∷ xs)) ≡ (eqb (f x) 0 && all_pass (map f xs))
-  pass_more x xs = refl
+-- no refusal has the number 0
+refused : (r : Refusal) → eqb (number r) 0 ≡ false
+refused SmallBuffer = refl
+refused LongInput = refl
+refused NoHeader = refl
+refused LineCount = refl
+refused UnknownSender = refl
+refused NoProgram = refl
+refused ProgramOff = refl
+refused NoRequest = refl
+refused NoMessage = refl
+refused Untimely = refl
+refused Incomplete = refl
+refused NoSlotName = refl
+refused NoFlight = refl
+refused NotOwned = refl
+refused Uncontrolled = refl
+refused Controlled = refl
+refused Departed = refl
+refused OnPopUp = refl
+refused OffSlot = refl
+refused OffMinute = refl
+refused EteUnfit = refl
+refused SlotHeld = refl
+refused Repeated = refl
+refused Unheld = refl
+refused Claimed = refl
+refused Stranded = refl
+refused FaultyList = refl
+refused ProgramThere = refl
 
-  pass_at : (xs : List X) (i : ℕ) (x : X) → i < length xs → x ≡ get_or xs i x → all_pass (map f (drop i xs)) ≡ (eqb (f x) 0 && all_pass (map f (drop (i + 1) xs)))
-  pass_at xs i x h e =
-      rw (add-one i) (ap (λ (l : List X). all_pass (map f l)) (drop-cons xs i x h) ∙ ap (λ y. eqb (f y) 0 && all_pass (map f (drop (suc i) xs))) (sym e))
+first_here : (n : ℕ) (ns : List ℕ) → eqb n 0 ≡ false → first_number (n ∷ ns) ≡ n
+first_here zero ns h = let no : true ≡ false = h in absurd (let z : ◌≡◌ {A = ℕ} 0 1 = cc in omega arith)
+first_here (suc n) ns h = refl
 
-  pub pass_here : (xs : List X) (i : ℕ) (x : X) → i < length xs → x ≡ get_or xs i x → eqb (f x) 0 ≡ false → all_pass (map f (drop i xs)) ≡ false
-  pass_here xs i x h e t = pass_at xs i x h e ∙ ap (λ b. b && all_pass (map f (drop (i + 1) xs))) t
+-- the fault of the first row that has one
+here : (f : Option Refusal) (r : KeptRow) (rest : Option KeptRow) (ns : List ℕ) → r.fault ≡ f → number_or_zero (option_and_then (λ (r : KeptRow). r.fault) rest) ≡ first_number ns
+    → number_or_zero (option_and_then (λ (r : KeptRow). r.fault) (cond (is_some f) (Some r) rest)) ≡ first_number (number_or_zero f ∷ ns)
+here None r rest ns e h = h
+here (Some f) r rest ns e h = ap number_or_zero e ∙ sym (first_here (number f) ns (refused f))
 
-  pub pass_later : (xs : List X) (i : ℕ) (x : X) → i < length xs → x ≡ get_or xs i x → eqb (f x) 0 ≡ true → all_pass (map f (drop i xs)) ≡ all_pass (map f (drop (i + 1) xs))
-  pass_later xs i x h e t = pass_at xs i x h e ∙ ap (λ b. b && all_pass (map f (drop (i + 1) xs))) t
+found : (rows : List KeptRow) → number_or_zero (option_and_then (λ (r : KeptRow). r.fault) (find (λ (r : KeptRow). is_some r.fault) rows)) ≡ first_number (map number_of rows)
+found [] = refl
+found (r ∷ rows) = here r.fault r (find (λ (r : KeptRow). is_some r.fault) rows) (map number_of rows) refl (found rows)
 
-  pub pass_end : (xs : List X) (i : ℕ) → i ≡ length xs → all_pass (map f (drop i xs)) ≡ true
-  pass_end xs i e = ap (λ n. all_pass (map f (drop n xs))) e ∙ ap (λ (l : List X). all_pass (map f l)) (drop-length xs)
+pub first_found : (rows : List KeptRow) (o : Option KeptRow) → o ≡ find (λ (r : KeptRow). is_some r.fault) rows → number_or_zero (option_and_then (λ (r : KeptRow). r.fault) o) ≡ first_number (map number_of rows)
+first_found rows o e = ap (λ p. number_or_zero (option_and_then (λ (r : KeptRow). r.fault) p)) e ∙ found rows
 
--- a loop that gives the first number that is not 0
-first_nonzero : (n : ℕ) (ns : List ℕ) → (n ≡ 0 → ⊥) → first_number (n ∷ ns) ≡ n
-first_nonzero zero ns h = absurd (h refl)
-first_nonzero (suc n) ns h = refl
+-- all pass where there is no first fault
+passes : (ns : List ℕ) → eqb (first_number ns) 0 ≡ all_pass ns
+passes [] = refl
+passes (zero ∷ ns) = passes ns
+passes (suc n ∷ ns) = let e = ne_eqb (suc n) 0 (λ z. omega (arith, z)) in e ∙ sym (ap (λ b. b && all_pass ns) e)
 
-first_zero : (n : ℕ) (ns : List ℕ) → n ≡ 0 → first_number (n ∷ ns) ≡ first_number ns
-first_zero zero ns h = refl
-first_zero (suc n) ns h = absurd (omega arith)
+none_number : (f : Option Refusal) → not (is_some f) ≡ eqb (number_or_zero f) 0
+none_number None = refl
+none_number (Some r) = sym (refused r)
 
-module _ {X : Type 0} (f : X → ℕ) where
-  number_at : (xs : List X) (i : ℕ) (x : X) → i < length xs → x ≡ get_or xs i x → first_number (map f (drop i xs)) ≡ first_number (f x ∷ map f (drop (i + 1) xs))
-  number_at xs i x h e =
-      rw (add-one i) (ap (λ (l : List X). first_number (map f l)) (drop-cons xs i x h) ∙ ap (λ y. first_number (f y ∷ map f (drop (suc i) xs))) (sym e))
+pub none_passes : (f : Option Refusal) (ns : List ℕ) → number_or_zero f ≡ first_number ns → not (is_some f) ≡ all_pass ns
+none_passes f ns e = none_number f ∙ ap (λ n. eqb n 0) e ∙ passes ns
 
-  pub number_here : (xs : List X) (i : ℕ) (x : X) → i < length xs → x ≡ get_or xs i x → (f x ≡ 0 → ⊥) → first_number (map f (drop i xs)) ≡ f x
-  number_here xs i x h e t = number_at xs i x h e ∙ first_nonzero (f x) (map f (drop (i + 1) xs)) t
-
-  pub number_later : (xs : List X) (i : ℕ) (x : X) → i < length xs → x ≡ get_or xs i x → f x ≡ 0 → first_number (map f (drop i xs)) ≡ first_number (map f (drop (i + 1) xs))
-  number_later xs i x h e t = number_at xs i x h e ∙ first_zero (f x) (map f (drop (i + 1) xs)) t
-
-  pub number_end : (xs : List X) (i : ℕ) → i ≡ length xs → first_number (map f (drop i xs)) ≡ 0
-  number_end xs i e = ap (λ n. first_number (map f (drop n xs))) e ∙ ap (λ (l : List X). first_number (map f l)) (drop-length xs)
+-- the number of what a check answers
+pub number_err : (r : Result (Unit {0}) Refusal) → number_or_zero (result_err r) ≡ fault_number r
+number_err (Ok x) = refl
+number_err (Err f) = refl

@@ -1,10 +1,11 @@
 -- Steps of the loops over rows.
-use Rattle.std.proofs.Common.{◌≡◌, ℕ, zero, suc, ◌+◌, ◌<◌, ◌≤◌, true, false, leb, List, [], ◌∷◌, ◌++◌, map, length, get_or, take, sym, refl, ap, ◌∙◌, append_assoc, append-nil, arith, length-append}
+use Rattle.std.proofs.Common.{◌≡◌, ℕ, zero, suc, ◌+◌, ◌<◌, ◌≤◌, true, false, leb, List, [], ◌∷◌, ◌++◌, map, length, get_or, take, set, sym, ap, ◌∙◌, append_assoc, append-nil, arith, length-append}
 use Rattle.std.proofs.lemmas.Bool.{and_from, and_left, and_right, le-leb, lt-leb}
 use Rattle.text.specs.Lines.{Line}
-use Rattle.flights.proofs.Scans.{length_mapped}
+use Rattle.std.proofs.lemmas.List.{length-map, length-take-le, map-append, take_more_set}
 use Rattle.plan.specs.declared.row.Row.{Row as KeptRow}
-use Rattle.plan.specs.Rows.{Row, row_of, message_at}
+use Rattle.plan.specs.declared.row.Plan.{Plan}
+use Rattle.plan.specs.Rows.{Row, row_of, rows_of, number_of, numbers_of, message_at}
 use Rattle.messages.specs.Headers.{has_places}
 
 -- the message of a row that the code reads at a place
@@ -13,26 +14,27 @@ message_there [] i x l e = absurd (omega arith)
 message_there (r ∷ rs) zero x l e = ap (λ y. (row_of y).message) e
 message_there (r ∷ rs) (suc i) x l e = message_there rs i x (omega arith) e
 
-pub map_take : {X Y : Type 0} (f : X → Y) (k : ℕ) (xs : List X) → map f (take k xs) ≡ take k (map f xs)
-map_take f zero xs = refl
-map_take f (suc k) [] = refl
-map_take f (suc k) (x ∷ xs) = ap (λ l. f x ∷ l) (map_take f k xs)
+-- how many rows are filled
+length_filled : {X Y : Type 0} (f : X → Y) (k : ℕ) (xs : List X) → k ≤ length xs → length (map f (take k xs)) ≡ k
+length_filled f k xs h = length-map (take k xs) f ∙ length-take-le k xs h
 
-length_taken : {X : Type 0} (k : ℕ) (xs : List X) → k ≤ length xs → length (take k xs) ≡ k
-length_taken zero xs h = refl
-length_taken (suc k) [] h = absurd (omega arith)
-length_taken (suc k) (x ∷ xs) h = ap suc (length_taken k xs (omega arith))
+pub count_rows : (p : Plan) → length (rows_of p) ≡ p.count
+count_rows p = length_filled row_of p.count p.rows (omega (arith, p.few, p.whole))
 
-pub length_rows : {X Y : Type 0} (f : X → Y) (k : ℕ) (xs : List X) → k ≤ length xs → length (map f (take k xs)) ≡ k
-length_rows f k xs h = length_mapped f (take k xs) ∙ length_taken k xs h
+pub count_numbers : (p : Plan) → length (numbers_of p) ≡ p.count
+count_numbers p = length_filled number_of p.count p.rows (omega (arith, p.few, p.whole))
+
+-- one more behind the first n
+pub stored_more : {X Y : Type 0} (f : X → Y) (xs : List X) (n : ℕ) (x : X) → n < length xs → map f (take (n + 1) (set xs n x)) ≡ map f (take n xs) ++ f x ∷ []
+stored_more f xs n x h = ap (map f) (take_more_set xs n x h) ∙ map-append f (take n xs) (x ∷ [])
 
 -- the rows so far and the lines to come
 module _ (f : Line → Row) where
   total : (rows : List Row) (left start : List Line) → rows ++ map f left ≡ map f start → length rows + length left ≡ length start
   total rows left start inv =
       let a = length-append rows (map f left) in
-      let b = length_mapped f left in
-      let c = length_mapped f start in
+      let b = length-map left f in
+      let c = length-map start f in
       let d = ap length inv in
       omega arith
 

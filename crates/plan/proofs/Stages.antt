@@ -1,13 +1,19 @@
 -- The loops that give each row its number.
-use Rattle.std.proofs.Common.{◌≡◌, ℕ, zero, suc, ◌+◌, ◌<◌, ◌≤◌, Bool, true, false, cond, eqb, List, [], ◌∷◌, ◌++◌, map, length, get_or, take, set, Some, None, Option, sym, refl, ap, ◌∙◌, append_assoc, arith}
-use Rattle.std.proofs.lemmas.List.{take_more, take_more_set, take_all}
+use Rattle.std.proofs.Common.{◌≡◌, ℕ, zero, suc, ◌+◌, ◌<◌, ◌≤◌, Bool, true, false, not, cond, eqb, List, [], ◌∷◌, ◌++◌, map, length, get_or, take, set, Some, None, Option, sym, refl, ap, ◌∙◌, append_assoc, append-nil, arith}
+use Rattle.std.proofs.lemmas.List.{take_more, take_more_set, take_all, take-map, length-map}
 use Rattle.std.proofs.lemmas.Bool.{and_parts}
 use Rattle.model.specs.Model.{Setting, Program}
 use Rattle.packets.specs.Messages.{Message}
 use Rattle.packets.specs.StageOne.{fault_alone}
 use Rattle.packets.specs.StageTwo.{faults_together}
-use Rattle.packets.specs.Verdict.{messages_of, all_pass, line_numbers}
-use Rattle.plan.specs.Rows.{Row, messages_in, message_at, fault_beside, faults_beside}
+use Rattle.packets.specs.Verdict.{messages_of, all_pass, line_numbers, first_number}
+use Rattle.std.specs.Option.{is_some}
+use Rattle.model.specs.declared.refusal.Refusal.{Refusal}
+use Rattle.model.specs.Refusals.{number_or_zero}
+use Rattle.plan.proofs.Numbers.{none_passes}
+use Rattle.plan.specs.declared.row.Row.{Row as KeptRow}
+use Rattle.plan.proofs.RowSteps.{message_there}
+use Rattle.plan.specs.Rows.{Row, row_of, messages_in, message_at, each_beside, fault_beside, faults_beside}
 
 -- the numbers so far are those wanted; one more is given
 pub numbered_more : (ns ns' target : List ℕ) (i n : ℕ) → i < length ns → i < length target → take i ns ≡ take i target → ns' ≡ set ns i n → n ≡ get_or target i 0 → take (i + 1) ns' ≡ take (i + 1) target
@@ -21,37 +27,38 @@ numbered_more ns ns' target i n h k inv e v =
 pub numbered_all : (ns target : List ℕ) (i : ℕ) → length ns ≤ i → length target ≤ i → take i ns ≡ take i target → ns ≡ target
 numbered_all ns target i h k inv = sym (take_all i ns h) ∙ (inv ∙ take_all i target k)
 
--- what stands at a place of the numbers of stage one
-pub alone_at : (f : Option Message → ℕ) (rs : List Row) (i : ℕ) → i < length rs → f (message_at rs i) ≡ get_or (map f (messages_in rs)) i 0
-alone_at f [] i h = absurd (omega arith)
-alone_at f (r ∷ rs) zero h = refl
-alone_at f (r ∷ rs) (suc i) h = alone_at f rs i (omega arith)
+-- a check of each line by itself
+pub each_alone : (f : Option Message → ℕ) (before os : List (Option Message)) → each_beside (λ b o. f o) before os ≡ map f os
+each_alone f before [] = refl
+each_alone f before (o ∷ os) = ap (λ (l : List ℕ). f o ∷ l) (each_alone f (before ++ o ∷ []) os)
 
-pub length_alone : (f : Option Message → ℕ) (rs : List Row) → length (map f (messages_in rs)) ≡ length rs
-length_alone f [] = refl
-length_alone f (r ∷ rs) = ap suc (length_alone f rs)
+-- what stands at a place of the numbers
+module _ (gives : List (Option Message) → Option Message → ℕ) where
+  at_from : (before : List (Option Message)) (rs : List Row) (i : ℕ) → i < length rs → gives (before ++ messages_in (take i rs)) (message_at rs i) ≡ get_or (each_beside gives before (messages_in rs)) i 0
+  at_from before [] i h = absurd (omega arith)
+  at_from before (r ∷ rs) zero h = ap (λ (b : List (Option Message)). gives b r.message) (append-nil before)
+  at_from before (r ∷ rs) (suc i) h =
+      ap (λ (b : List (Option Message)). gives b (message_at rs i)) (sym (append_assoc before (r.message ∷ []) (messages_in (take i rs))))
+      ∙ at_from (before ++ r.message ∷ []) rs i (omega arith)
 
--- what stands at a place of the numbers of stage two
-module _ {S : Type 0} (s : Setting S) (p : Program) (u : ℕ) (all : List (Option Message)) where
-  beside_from : (before : List (Option Message)) (rs : List Row) (i : ℕ) → i < length rs → fault_beside s p u all (before ++ messages_in (take i rs)) (message_at rs i) ≡ get_or (faults_beside s p u all before (messages_in rs)) i 0
-  beside_from before [] i h = absurd (omega arith)
-  beside_from before (r ∷ rs) zero h = ap (λ (b : List (Option Message)). fault_beside s p u all b r.message) (nil before) where
-    nil : (os : List (Option Message)) → os ++ [] ≡ os
-    nil [] = refl
-    nil (o ∷ os) = ap (λ (l : List (Option Message)). o ∷ l) (nil os)
-  beside_from before (r ∷ rs) (suc i) h =
-      ap (λ (b : List (Option Message)). fault_beside s p u all b (message_at rs i)) (sym (append_assoc before (r.message ∷ []) (messages_in (take i rs))))
-      ∙ beside_from (before ++ r.message ∷ []) rs i (omega arith)
+  pub each_at : (rs : List Row) (i : ℕ) → i < length rs → gives (messages_in (take i rs)) (message_at rs i) ≡ get_or (each_beside gives [] (messages_in rs)) i 0
+  each_at rs i h = at_from [] rs i h
 
-  pub beside_at : (rs : List Row) (i : ℕ) → i < length rs → fault_beside s p u all (messages_in (take i rs)) (message_at rs i) ≡ get_or (faults_beside s p u all [] (messages_in rs)) i 0
-  beside_at rs i h = beside_from [] rs i h
-
-  length_from : (before : List (Option Message)) (rs : List Row) → length (faults_beside s p u all before (messages_in rs)) ≡ length rs
+  length_from : (before : List (Option Message)) (rs : List Row) → length (each_beside gives before (messages_in rs)) ≡ length rs
   length_from before [] = refl
   length_from before (r ∷ rs) = ap suc (length_from (before ++ r.message ∷ []) rs)
 
-  pub length_beside : (rs : List Row) → length (faults_beside s p u all [] (messages_in rs)) ≡ length rs
-  length_beside rs = length_from [] rs
+  pub length_each : (rs : List Row) → length (each_beside gives [] (messages_in rs)) ≡ length rs
+  length_each rs = length_from [] rs
+
+-- the number that is found at a place of the code's rows
+pub found_at : (gives : List (Option Message) → Option Message → ℕ) (all : List KeptRow) (rs : List Row) (i : ℕ) (x : KeptRow) → map row_of all ≡ rs → i < length all → x ≡ get_or all i x
+    → gives (messages_in (map row_of (take i all))) (row_of x).message ≡ get_or (each_beside gives [] (messages_in rs)) i 0
+found_at gives all rs i x e h is =
+    ap (λ (before : List Row). gives (messages_in before) (row_of x).message) (sym (take-map row_of i all))
+    ∙ ap (λ (o : Option Message). gives (messages_in (take i (map row_of all))) o) (message_there all i x h is)
+    ∙ each_at gives (map row_of all) i (omega (arith, length-map all row_of, h))
+    ∙ ap (λ (rs : List Row). get_or (each_beside gives [] (messages_in rs)) i 0) e
 
 -- where all pass alone, each row is a message, and stage two is that of the messages
 messages_snoc : (os : List (Option Message)) (m : Message) → messages_of (os ++ Some m ∷ []) ≡ messages_of os ++ m ∷ []
@@ -67,6 +74,17 @@ together_from s p u all before (Some m ∷ os) h =
     ap (λ (l : List ℕ). fault_beside s p u all before (Some m) ∷ l)
     (together_from s p u all (before ++ Some m ∷ []) os rest ∙ ap (λ (b : List Message). faults_together s p u (messages_of all) b (messages_of os)) (messages_snoc before m))
 
-pub two_stages : {S : Type 0} (s : Setting S) (p : Program) (u : ℕ) (os : List (Option Message)) (b : Bool) (ns : List ℕ) → b ≡ all_pass (map (fault_alone s p u) os) → ns ≡ cond b (faults_beside s p u os [] os) (map (fault_alone s p u) os) → ns ≡ line_numbers s p u os
-two_stages s p u os true ns h e = e ∙ together_from s p u os [] os (sym h) ∙ ap (λ t. cond t (faults_together s p u (messages_of os) [] (messages_of os)) (map (fault_alone s p u) os)) h
-two_stages s p u os false ns h e = e ∙ ap (λ t. cond t (faults_together s p u (messages_of os) [] (messages_of os)) (map (fault_alone s p u) os)) h
+module _ {S : Type 0} (s : Setting S) (p : Program) (u : ℕ) (os : List (Option Message)) (ns : List ℕ) (one : ns ≡ each_beside (λ before o. fault_alone s p u o) [] os) where
+  alone : ns ≡ map (fault_alone s p u) os
+  alone = one ∙ each_alone (fault_alone s p u) [] os
+
+  chosen : (b : Bool) → b ≡ all_pass ns → cond b (faults_together s p u (messages_of os) [] (messages_of os)) (map (fault_alone s p u) os) ≡ line_numbers s p u os
+  chosen b h = ap (λ t. cond t (faults_together s p u (messages_of os) [] (messages_of os)) (map (fault_alone s p u) os)) (h ∙ ap all_pass alone)
+
+  -- the numbers of stage one, where they don't all pass, and else those of stage two
+  judged_by : (b : Bool) (ns' : List ℕ) → not b ≡ all_pass ns → ns' ≡ cond b ns (each_beside (fault_beside s p u os) [] os) → ns' ≡ line_numbers s p u os
+  judged_by true ns' h two = two ∙ alone ∙ chosen false h
+  judged_by false ns' h two = two ∙ together_from s p u os [] os (sym (h ∙ ap all_pass alone)) ∙ chosen true h
+
+  pub judged : (b : Bool) (ns' : List ℕ) (f : Option Refusal) → is_some f ≡ b → number_or_zero f ≡ first_number ns → ns' ≡ cond b ns (each_beside (fault_beside s p u os) [] os) → ns' ≡ line_numbers s p u os
+  judged b ns' f is first two = judged_by b ns' (ap not (sym is) ∙ none_passes f ns first) two

@@ -1,11 +1,14 @@
 -- The rows of a plan.
-use Rattle.std.specs.Prelude.{ℕ, zero, suc, Bool, false, cond, List, [], ◌∷◌, ◌++◌, map, take, Some, None, Option}
+use Rattle.std.specs.Prelude.{◌≡◌, ℕ, zero, suc, cond, List, [], ◌∷◌, ◌++◌, map, take, Some, None, Option, Result}
 use Rattle.std.specs.Option.{option_map}
 use Rattle.text.specs.Lines.{Line}
 use Rattle.text.specs.Short.{text_of}
+use Rattle.model.specs.declared.refusal.Refusal.{Refusal}
 use Rattle.model.specs.Model.{Setting, Program}
+use Rattle.model.specs.Refusals.{number_or_zero, number_of as fault_number}
 use Rattle.plan.specs.declared.row.Row.{Row as KeptRow}
 use Rattle.plan.specs.declared.row.Plan.{Plan}
+use Rattle.plan.specs.declared.row.Among.{Among}
 use Rattle.calendar.specs.Days.{Days}
 use Rattle.element.specs.Meanings.{Meaning}
 use Rattle.calendar.specs.Identities.{Identity}
@@ -25,7 +28,7 @@ abbrev pub row_of : KeptRow → Row
 row_of r = record { line = record { text = text_of r.text; readable = r.readable }; message = option_map kept_message r.message }
 
 abbrev pub number_of : KeptRow → ℕ
-number_of r = r.number
+number_of r = number_or_zero r.fault
 
 -- the rows of a plan, their numbers and their messages
 abbrev pub rows_of : Plan → List Row
@@ -45,14 +48,17 @@ abbrev pub fault_beside : {S : Type 0} → Setting S → Program → ℕ → Lis
 fault_beside s p u all before None = 701
 fault_beside s p u all before (Some m) = first_of (stage_two s p u (messages_of all) (messages_of before) m)
 
-abbrev pub faults_beside : {S : Type 0} → Setting S → Program → ℕ → List (Option Message) → List (Option Message) → List (Option Message) → List ℕ
-faults_beside s p u all before [] = []
-faults_beside s p u all before (o ∷ os) = fault_beside s p u all before o ∷ faults_beside s p u all (before ++ o ∷ []) os
+-- the numbers that lines get one by one, where `before` are those before them
+abbrev pub each_beside : (List (Option Message) → Option Message → ℕ) → List (Option Message) → List (Option Message) → List ℕ
+each_beside gives before [] = []
+each_beside gives before (o ∷ os) = gives before o ∷ each_beside gives (before ++ o ∷ []) os
 
--- a test of the message, where there is one
-abbrev pub passing : (Message → Bool) → Option Message → Bool
-passing test None = false
-passing test (Some m) = test m
+abbrev pub faults_beside : {S : Type 0} → Setting S → Program → ℕ → List (Option Message) → List (Option Message) → List (Option Message) → List ℕ
+faults_beside s p u all before os = each_beside (fault_beside s p u all) before os
+
+-- a check of the code, where these are all rows: the number that it finds is what `gives` says of a line beside those before it
+abbrev pub Finds : List Row → (Among → Result (Unit {0}) Refusal → Type 0) → (List (Option Message) → Option Message → ℕ) → Type 0
+Finds rows finds gives = (a : Among) (r : Result (Unit {0}) Refusal) → map row_of a.all.now ≡ rows → finds a r → fault_number r ≡ gives (messages_in (map row_of a.before.now)) (row_of a.row.now).message
 
 -- the row of a line
 abbrev pub row_read : Meaning → Days → Line → Row

@@ -1,5 +1,5 @@
 -- The standing rules last over every call.
-use Rattle.std.proofs.Common.{◌≡◌, ℕ, Bool, true, false, cond, ltb, leb, List, [], ◌∷◌, map, length, Some, None, Option, sym, refl, ap, ◌∙◌}
+use Rattle.std.proofs.Common.{◌≡◌, ℕ, Bool, true, false, cond, ltb, leb, List, [], ◌∷◌, map, length, Some, None, Option, refl, ap, ◌∙◌}
 use Rattle.std.proofs.lemmas.Bool.{and_parts, and_from}
 use Rattle.text.specs.Lines.{Line, lines}
 use Rattle.calendar.specs.Identities.{Identity, identity_read}
@@ -10,8 +10,8 @@ use Rattle.flights.specs.Standing.{table_stands}
 use Rattle.flights.proofs.Departing.{departed_stands}
 use Rattle.lists.specs.Lists.{Reading, good, faulty, list_read}
 use Rattle.lists.proofs.Standing.{list_stands}
-use Rattle.model.specs.declared.Condition.{Condition}
-use Rattle.model.specs.declared.Condition.TheVariants.{NoProgram, On, Off}
+use Rattle.model.specs.declared.condition.Condition.{Condition}
+use Rattle.model.specs.declared.condition.Condition.TheVariants.{NoProgram, On, Off}
 use Rattle.model.specs.Model.{Setting, Program, Call, Answer, Input, issue, switch, depart, purge, packet, report, refused, done, none_without, program_stands}
 use Rattle.processor.specs.declared.calls.Operation.TheVariants.{Issue, Switch, Purge, Depart, Packet, Report}
 use Rattle.processor.specs.Conditions.{refusal, unless}
@@ -22,7 +22,7 @@ use Rattle.packets.specs.Verdict.{all_pass, line_numbers}
 use Rattle.packets.proofs.Lasting.{packet_stands}
 use Rattle.processor.specs.Packet.{Outcome, silent, rejects, accepts, by_condition, by_user, by_header, received, outcome, answered}
 use Rattle.processor.specs.Report.{is_request, report_in, report_to, report_outcome}
-use Rattle.processor.specs.Step.{step, Does, Sends, Lasts}
+use Rattle.processor.specs.Step.{step, Lasts}
 
 -- an empty table stays empty where each flight is changed
 pub none_map : (c : Condition) (g : Flight → Flight) (fs : List Flight) → none_without c fs ≡ true → none_without c (map g fs) ≡ true
@@ -44,11 +44,15 @@ condition_stands : (on : Bool) (fs : List Flight) → none_without (condition_fo
 condition_stands true fs = refl
 condition_stands false fs = refl
 
-marked_if : (e : Meaning) (i : Identity) (b : Bool) (p : Program) → program_stands e p ≡ true → program_stands e (cond b (done (record { condition = p.condition; days = p.days; flights = map (departed_as i) p.flights })) (refused p 705 0)).0 ≡ true
-marked_if e i false p h = h
-marked_if e i true p h =
+-- a program with a flight marked as departed
+pub departed_program : (e : Meaning) (i : Identity) (p : Program) → program_stands e p ≡ true → program_stands e (record { condition = p.condition; days = p.days; flights = map (departed_as i) p.flights }) ≡ true
+departed_program e i p h =
     let parts = and_parts (table_stands e p.flights) (none_without p.condition p.flights) h in
     and_from _ _ (departed_stands i e p.flights ∙ parts.0) (none_map p.condition (departed_as i) p.flights parts.1)
+
+marked_if : (e : Meaning) (i : Identity) (b : Bool) (p : Program) → program_stands e p ≡ true → program_stands e (cond b (done (record { condition = p.condition; days = p.days; flights = map (departed_as i) p.flights })) (refused p 705 0)).0 ≡ true
+marked_if e i false p h = h
+marked_if e i true p h = departed_program e i p h
 
 marked_stands : (e : Meaning) (o : Option Identity) (p : Program) → program_stands e p ≡ true → program_stands e (marked_with o p).0 ≡ true
 marked_stands e None p h = h
@@ -125,7 +129,7 @@ answered_stands e p buffer (silent n) f h = h
 answered_stands e p buffer (rejects n t) f h = h
 answered_stands e p buffer (accepts q t) f h = f
 
-pub step_stands : {S : Type 0} (s : Setting S) (p : Program) (call : Call S) → program_stands s.element p ≡ true → program_stands s.element (step s p call).0 ≡ true
+pub step_stands : {S : Type 0} (s : Setting S) (p : Program) (call : Call S) → Lasts s p (step s p call).0
 step_stands s p (issue list) h =
     unless_stands s.element (refusal p.condition Issue) p (loaded s p list) h
     (loaded_stands s.element (leb (length list) 49152) (lines list) (list_read s.element (lines list)) p refl h)
@@ -139,14 +143,3 @@ step_stands s p purge h =
     unless_stands s.element (refusal p.condition Purge) p (done (record { condition = NoProgram; days = p.days; flights = [] })) h refl
 step_stands s p (packet sender input buffer) h = answered_stands s.element p buffer (outcome s p sender input (length buffer)) (outcome_fine s p h sender input (length buffer)) h
 step_stands s p (report sender input buffer) h = ap (program_stands s.element) (report_changes_nothing s p sender input buffer) ∙ h
-
--- so they last over a call that does what the definition says
-pub lasts_from : {S : Type 0} (s : Setting S) (p : Program) (call : Call S) (after : Program) (pair : ℕ × ℕ) → Does s p call after pair → Lasts s p after
-lasts_from s p call after pair h stands = ap (λ x. program_stands s.element x.0) h ∙ step_stands s p call stands
-
--- a call that the condition does not refuse
-pub not_refused : (o : Option ℕ) (p : Program) (x y : Program × Answer) → o ≡ None → y ≡ x → y ≡ unless o p x
-not_refused o p x y h e = e ∙ ap (λ k. unless k p x) (sym h)
-
-pub lasts_sends : {S : Type 0} (s : Setting S) (p : Program) (call : Call S) (after : Program) (pair : ℕ × ℕ) (buffer : List ℕ) → Sends s p call after pair buffer → Lasts s p after
-lasts_sends s p call after pair buffer h stands = ap (λ x. program_stands s.element x.0) h ∙ step_stands s p call stands

@@ -3,3 +3,4 @@ pub mod EdgesHold
 pub mod Saying
 pub mod Refusing
 pub mod Promises
+pub mod Shortness

@@ -4,7 +4,7 @@ use Rattle.std.proofs.lemmas.Bool.{true≢false}
 use Rattle.std.specs.List.{AllZip, flat_map}
 use Rattle.text.specs.Lines.{Line}
 use Rattle.flights.specs.Flights.{Flight}
-use Rattle.flights.proofs.Scans.{length_mapped}
+use Rattle.std.proofs.lemmas.List.{length-map}
 use Rattle.messages.specs.Headers.{header_read, has_places}
 use Rattle.packets.specs.Messages.{Message, message_read}
 use Rattle.packets.specs.Amended.{amended}
@@ -18,8 +18,8 @@ use Rattle.writing.specs.Overlay.{overlay}
 use Rattle.replies.specs.Rejections.{rejected}
 use Rattle.answering.specs.Listing.{Fault, fault_text}
 use Rattle.answering.proofs.Listed.{listed, foremost}
-use Rattle.model.specs.declared.Condition.{Condition}
-use Rattle.model.specs.declared.Condition.TheVariants.{NoProgram, On, Off}
+use Rattle.model.specs.declared.condition.Condition.{Condition}
+use Rattle.model.specs.declared.condition.Condition.TheVariants.{NoProgram, On, Off}
 use Rattle.model.specs.Model.{Setting, Program, Input, Answer, packet}
 use Rattle.processor.specs.declared.calls.Operation.TheVariants.{Packet}
 use Rattle.processor.specs.Conditions.{refusal}
@@ -52,7 +52,7 @@ module _ {S : Type 0} (s : Setting S) (p : Program) (sender : S) (lines : List L
     judged_kept u known =
         let os = map (message_read s.element p.days) ls in
         let ns = line_numbers s p u os in
-        let size : length ns ≡ length ls = numbers_length s p u os ∙ length_mapped (message_read s.element p.days) ls in
+        let size : length ns ≡ length ls = numbers_length s p u os ∙ length-map ls (message_read s.element p.days) in
         either_kept (all_pass ns) _ _
         (λ pass. record {
           condition = refl;

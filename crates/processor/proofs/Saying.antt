@@ -1,30 +1,29 @@
 -- What is written is what the outcome says.
-use Rattle.std.proofs.Common.{◌≡◌, ℕ, zero, suc, ◌<◌, true, false, cond, eqb, ltb, List, [], ◌∷◌, map, length, Some, None, Option, sym, refl, ap, ◌∙◌, zero-add, arith}
-use Rattle.std.proofs.lemmas.Bool.{and_left, ne_eqb}
-use Rattle.std.specs.List.{AllByRecursion}
+use Rattle.std.proofs.Common.{◌≡◌, ℕ, zero, suc, true, false, cond, eqb, List, [], ◌∷◌, map, length, Some, None, Option, sym, refl, ap, ◌∙◌, zero-add, arith}
+use Rattle.std.proofs.lemmas.Bool.{and_left, ne_eqb, true≢false}
 use Rattle.text.specs.Lines.{Line}
-use Rattle.messages.specs.Headers.{header_read, has_places}
+use Rattle.messages.specs.Headers.{has_places}
 use Rattle.packets.specs.Messages.{Message, message_read}
 use Rattle.packets.specs.Amended.{amended}
 use Rattle.packets.specs.Verdict.{messages_of, all_pass, line_numbers, first_number}
 use Rattle.plan.specs.Rows.{Row, row_read, messages_in}
 use Rattle.writing.specs.Overlay.{overlay, Wrote}
-use Rattle.answering.specs.Replies.{line_in, rejected_first, rejected_lines, accepted_list}
-use Rattle.model.specs.declared.Condition.{Condition}
-use Rattle.model.specs.declared.Condition.TheVariants.{NoProgram, On, Off}
-use Rattle.model.specs.Model.{Setting, Program, Input, Answer}
+use Rattle.answering.specs.Replies.{line_in, rejected_lines, accepted_list}
+use Rattle.model.specs.declared.condition.Condition.{Condition}
+use Rattle.model.specs.declared.condition.Condition.TheVariants.{NoProgram, On, Off}
+use Rattle.model.specs.Model.{Setting, Program, Answer}
+use Rattle.model.specs.declared.refusal.Refusal.{Refusal}
+use Rattle.model.specs.Refusals.{number}
+use Rattle.model.proofs.Refused.{refused}
 use Rattle.processor.specs.declared.calls.Operation.TheVariants.{Packet}
 use Rattle.processor.specs.Conditions.{refusal}
-use Rattle.processor.specs.Packet.{rejects, accepts, rejects_first, amended_program, judged, by_condition, by_user, by_lines, by_header, received, outcome, silent, answered}
+use Rattle.processor.specs.Packet.{rejects, accepts, rejects_first, amended_program, judged, by_condition, by_user, by_lines, answered}
 
 written_as : (p : Program) (n e : ℕ) (buffer buffer' text : List ℕ) → Wrote buffer 0 text buffer' e → ◌≡◌ {A = Program × Answer} (p, record { number = n; second = e; buffer = Some buffer' }) (p, record { number = n; second = length text; buffer = Some (overlay buffer 0 text) })
 written_as p n e buffer buffer' text w =
     let end : e ≡ length text = w.end ∙ zero-add (length text) in
     ap (λ (b : List ℕ). (p, record { number = n; second = e; buffer = Some b })) w.buffer
     ∙ ap (λ (k : ℕ). (p, record { number = n; second = k; buffer = Some (overlay buffer 0 text) })) end
-
-pub first_said : (p : Program) (id : List ℕ) (first : Line) (n e : ℕ) (buffer buffer' : List ℕ) → Wrote buffer 0 (rejected_first id first n) buffer' e → ◌≡◌ {A = Program × Answer} (p, record { number = n; second = e; buffer = Some buffer' }) (answered p buffer (rejects_first id first n))
-first_said p id first n e buffer buffer' w = written_as p n e buffer buffer' (rejected_first id first n) w
 
 pub lines_said : {S : Type 0} (s : Setting S) (p : Program) (id : List ℕ) (ls : List Line) (os : List (Option Message)) (ns : List ℕ) (n e : ℕ) (buffer buffer' : List ℕ) → all_pass ns ≡ false → n ≡ first_number ns → Wrote buffer 0 (rejected_lines id ls ns) buffer' e → ◌≡◌ {A = Program × Answer} (p, record { number = n; second = e; buffer = Some buffer' }) (answered p buffer (judged s p id ls os ns))
 lines_said s p id ls os ns n e buffer buffer' fail first w =
@@ -44,14 +43,14 @@ none_passes [] h = refl
 none_passes (zero ∷ ns) h = none_passes ns h
 none_passes (suc n ∷ ns) h = let z : suc n ≡ 0 = h in absurd (omega arith)
 
-pub some_fails : (ns : List ℕ) → (first_number ns ≡ 0 → ⊥) → all_pass ns ≡ false
+some_fails : (ns : List ℕ) → (first_number ns ≡ 0 → ⊥) → all_pass ns ≡ false
 some_fails [] h = absurd (h refl)
 some_fails (zero ∷ ns) h = some_fails ns h
 some_fails (suc n ∷ ns) h = and_left (eqb (suc n) 0) (all_pass ns) (ne_eqb (suc n) 0 (λ z. omega arith))
 
-pub all_unmap : {X : Type 0} (f : X → ℕ) (xs : List X) → AllByRecursion (λ n. n < 1000) (map f xs) → AllByRecursion (λ x. f x < 1000) xs
-all_unmap f [] h = tt
-all_unmap f (x ∷ xs) h = (h.0, all_unmap f xs h.1)
+-- a refusal has a number, so where it is the first not all pass
+pub fault_fails : (r : Refusal) (ns : List ℕ) → number r ≡ first_number ns → all_pass ns ≡ false
+fault_fails r ns e = some_fails ns (λ z. true≢false (sym (ap (λ n. eqb n 0) (e ∙ z)) ∙ refused r))
 
 -- a packet wants a program that is on
 pub condition_on : (c : Condition) → refusal c Packet ≡ None → c ≡ On
@@ -81,12 +80,3 @@ module _ {S : Type 0} (s : Setting S) (p : Program) where
       ap (λ (k : List Row). judged s p id (map line_in k) (messages_in k) ns) e
       ∙ ap (λ (k : List Line). judged s p id k (messages_in (map (row_read s.element p.days) ls)) ns) (lines_back ls)
       ∙ ap (λ (k : List (Option Message)). judged s p id ls k ns) (messages_back ls)
-
--- a packet that is neither too long nor without room
-pub outcome_received : {S : Type 0} (s : Setting S) (p : Program) (sender : S) (input : Input) (room : ℕ) → ltb room 40960 ≡ false → ltb 16384 input.size ≡ false → outcome s p sender input room ≡ received s p sender input.lines
-outcome_received s p sender input room wide short =
-    ap (λ b. cond b (silent 650) (cond (ltb 16384 input.size) (silent 651) (received s p sender input.lines))) wide
-    ∙ ap (λ b. cond b (silent 651) (received s p sender input.lines)) short
-
-pub received_as : {S : Type 0} (s : Setting S) (p : Program) (sender : S) (all ls : List Line) (first : Line) (o : Option (List ℕ)) → all ≡ first ∷ ls → o ≡ header_read first → received s p sender all ≡ by_header s p sender first ls o
-received_as s p sender all ls first o e h = ap (received s p sender) e ∙ ap (by_header s p sender first ls) (sym h)

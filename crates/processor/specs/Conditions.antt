@@ -1,7 +1,9 @@
 -- What the condition of a program refuses.
-use Rattle.std.specs.Prelude.{ℕ, Some, None, Option}
-use Rattle.model.specs.declared.Condition.{Condition}
-use Rattle.model.specs.declared.Condition.TheVariants.{NoProgram, On, Off}
+use Rattle.std.specs.Prelude.{ℕ, cond, Some, None, Option, Ok, Err, Result, nat_lt}
+use Rattle.model.specs.declared.condition.Condition.{Condition}
+use Rattle.model.specs.declared.condition.Condition.TheVariants.{NoProgram, On, Off}
+use Rattle.model.specs.declared.refusal.Refusal.{Refusal}
+use Rattle.model.specs.Refusals.{number}
 use Rattle.model.specs.Model.{Program, Answer, refused}
 use Rattle.processor.specs.declared.calls.Operation.{Operation}
 use Rattle.processor.specs.declared.calls.Operation.TheVariants.{Issue, Switch, Purge, Depart, Packet, Report}
@@ -31,3 +33,12 @@ refusal Off Report = None
 abbrev pub unless : Option ℕ → Program → Program × Answer → Program × Answer
 unless None p otherwise = otherwise
 unless (Some number) p otherwise = refused p number 0
+
+-- the number of a refusal of the code, where it refuses
+abbrev pub refused_by : {X : Type 0} → Result X Refusal → Option ℕ
+refused_by (Ok x) = None
+refused_by (Err why) = Some (number why)
+
+-- 650: the buffer has under 40,960 bytes; 651: the input has over 16,384
+abbrev pub sizes_refused : ℕ → ℕ → Option ℕ
+sizes_refused room size = cond (nat_lt room 40960) (Some 650) (cond (nat_lt 16384 size) (Some 651) None)

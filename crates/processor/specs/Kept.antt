@@ -2,7 +2,7 @@
 use Rattle.calendar.specs.Days.{Days}
 use Rattle.flights.specs.declared.table.Table.{Table}
 use Rattle.flights.specs.Kept.{flights_of}
-use Rattle.model.specs.declared.Condition.{Condition}
+use Rattle.model.specs.declared.condition.Condition.{Condition}
 use Rattle.model.specs.Model.{Program}
 
 -- the program of a condition, the element's days and a table

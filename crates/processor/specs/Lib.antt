@@ -4,6 +4,8 @@ pub mod Packet
 pub mod Report
 pub mod Step
 pub mod Kept
+pub mod Pairs
+pub mod Held
 pub mod Edges
 pub mod Judging
 pub mod Laws

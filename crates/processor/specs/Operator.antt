@@ -5,8 +5,8 @@ use Rattle.calendar.specs.Identities.{Identity, identity_read}
 use Rattle.flights.specs.Counts.{some}
 use Rattle.flights.specs.Flights.{bearers, departed_as}
 use Rattle.lists.specs.Lists.{Reading, good, faulty, list_read}
-use Rattle.model.specs.declared.Condition.{Condition}
-use Rattle.model.specs.declared.Condition.TheVariants.{NoProgram, On, Off}
+use Rattle.model.specs.declared.condition.Condition.{Condition}
+use Rattle.model.specs.declared.condition.Condition.TheVariants.{NoProgram, On, Off}
 use Rattle.model.specs.Model.{Setting, Program, Answer, refused, done}
 use Rattle.processor.specs.declared.calls.Operation.TheVariants.{Issue, Switch, Purge, Depart}
 use Rattle.processor.specs.Conditions.{refusal, unless}

@@ -17,9 +17,13 @@ step s p (report sender input buffer) = reported s p sender input buffer
 abbrev pub Does : {S : Type 0} → Setting S → Program → Call S → Program → ℕ × ℕ → Type 0
 Does s p call after pair = (after, answer pair) ≡ step s p call
 
+-- this program, and the answer of this pair with a buffer
+abbrev pub sending : Program → ℕ × ℕ → List ℕ → Program × Answer
+sending after pair buffer = (after, record { number = pair.0; second = pair.1; buffer = Some buffer })
+
 -- the same of a call with a buffer
 abbrev pub Sends : {S : Type 0} → Setting S → Program → Call S → Program → ℕ × ℕ → List ℕ → Type 0
-Sends s p call after pair buffer = (after, record { number = pair.0; second = pair.1; buffer = Some buffer }) ≡ step s p call
+Sends s p call after pair buffer = sending after pair buffer ≡ step s p call
 
 -- the standing rules last over a call
 abbrev pub Lasts : {S : Type 0} → Setting S → Program → Program → Type 0

@@ -4,11 +4,11 @@
 
 mod calls;
 mod edges;
+mod lines;
 mod operator;
 mod packet_call;
 mod reports;
 mod state;
-mod verdict;
 
 pub use edges::worked_edge;
 pub use state::Processor;

@@ -1,38 +1,31 @@
 ghost use Rattle.std.specs.Prelude.{◌≡◌, [], length, IfOk};
 ghost use Rattle.flights.specs.Kept.{flights_of};
-ghost use Rattle.model.specs.Model.{answer, issue, switch, depart, purge};
-ghost use Rattle.model.specs.declared.Condition.TheVariants.{NoProgram};
-ghost use Rattle.processor.specs.Conditions.{refusal};
-ghost use Rattle.processor.specs.Operator.{condition_for, loaded, marked};
+ghost use Rattle.model.specs.Model.{issue, switch, purge};
+ghost use Rattle.model.specs.declared.condition.Condition.TheVariants.{NoProgram};
+ghost use Rattle.processor.specs.Conditions.{refusal, refused_by};
+ghost use Rattle.processor.specs.Held.{setting, program, departure_of};
 ghost use Rattle.processor.specs.Laws.{RefusedUnchanged};
-ghost use Rattle.processor.specs.Step.{Does, Lasts};
-ghost use Rattle.model.specs.Model.{setting_of};
-ghost use Rattle.processor.specs.Kept.{program_of};
+ghost use Rattle.processor.specs.Pairs.{pair_of};
+ghost use Rattle.processor.specs.Step.{Does};
 
-use crate::calls::Operation;
+use crate::calls::{Failure, Operation, pair};
 use crate::state::Processor;
-use calendar::Identity;
+use calendar::{FlightTexts, Identity};
 use element::Element;
 use flights::Table;
 use lists::read_list;
-use model::Condition;
+use model::{Condition, Refusal};
 use register::Register;
 use std::alloc::{AllocError, Global};
 
 /// The largest issue list, in bytes.
 const LARGEST_LIST: usize = 49_152;
 
-fn condition_for(on: bool) -> Condition
-    ensures { result ≡ condition_for on }
-{
-    if on { Condition::On } else { Condition::Off }
-}
-
 impl<R: Register + Drop, E: Element + Drop> Processor<R, E> {
     /// A processor without a program. The room for its flights is reserved here, so no call can run
     /// out of memory later.
     pub fn new(heap: Global, register: R, element: E) -> Result<Self, AllocError>
-        ensures { IfOk result (λ p. (p.register ≡ register) × (p.element ≡ element) × (program_of p.condition (E.Element.span p.element) p.table ≡ record { condition = NoProgram; days = E.Element.span element; flights = [] })) }
+        ensures { IfOk result (λ p. (p.register ≡ register) × (p.element ≡ element) × (program p ≡ record { condition = NoProgram; days = E.Element.span element; flights = [] })) }
     {
         let table = Table::new(heap)?;
         Ok(Processor {
@@ -51,132 +44,132 @@ impl<R: Register + Drop, E: Element + Drop> Processor<R, E> {
         (self.condition, self.table.len())
     }
 
-    /// The number by which the program's condition refuses a call.
-    pub(crate) fn refusal(&self, call: Operation) -> Option<u32>
-        ensures { result ≡ refusal self.now.condition call }
+    /// Whether the program's condition allows a call, or why it refuses it.
+    pub(crate) fn allows(&self, call: Operation) -> Result<(), Refusal>
+        ensures { refused_by result ≡ refusal self.now.condition call }
     {
         match (self.condition, call) {
-            (Condition::NoProgram, Operation::Issue) => None,
-            (Condition::NoProgram, Operation::Switch) => Some(604),
-            (Condition::NoProgram, Operation::Purge) => Some(604),
-            (Condition::NoProgram, Operation::Depart) => Some(604),
-            (Condition::NoProgram, Operation::Packet) => Some(604),
-            (Condition::NoProgram, Operation::Report) => Some(604),
-            (Condition::On, Operation::Issue) => Some(805),
-            (Condition::On, Operation::Switch) => None,
-            (Condition::On, Operation::Purge) => None,
-            (Condition::On, Operation::Depart) => None,
-            (Condition::On, Operation::Packet) => None,
-            (Condition::On, Operation::Report) => None,
-            (Condition::Off, Operation::Issue) => Some(805),
-            (Condition::Off, Operation::Switch) => None,
-            (Condition::Off, Operation::Purge) => None,
-            (Condition::Off, Operation::Depart) => None,
-            (Condition::Off, Operation::Packet) => Some(605),
-            (Condition::Off, Operation::Report) => None,
+            (Condition::NoProgram, Operation::Issue) => Ok(()),
+            (Condition::NoProgram, Operation::Switch) => Err(Refusal::NoProgram),
+            (Condition::NoProgram, Operation::Purge) => Err(Refusal::NoProgram),
+            (Condition::NoProgram, Operation::Depart) => Err(Refusal::NoProgram),
+            (Condition::NoProgram, Operation::Packet) => Err(Refusal::NoProgram),
+            (Condition::NoProgram, Operation::Report) => Err(Refusal::NoProgram),
+            (Condition::On, Operation::Issue) => Err(Refusal::ProgramThere),
+            (Condition::On, Operation::Switch) => Ok(()),
+            (Condition::On, Operation::Purge) => Ok(()),
+            (Condition::On, Operation::Depart) => Ok(()),
+            (Condition::On, Operation::Packet) => Ok(()),
+            (Condition::On, Operation::Report) => Ok(()),
+            (Condition::Off, Operation::Issue) => Err(Refusal::ProgramThere),
+            (Condition::Off, Operation::Switch) => Ok(()),
+            (Condition::Off, Operation::Purge) => Ok(()),
+            (Condition::Off, Operation::Depart) => Ok(()),
+            (Condition::Off, Operation::Packet) => Err(Refusal::ProgramOff),
+            (Condition::Off, Operation::Report) => Ok(()),
         }
     }
 
-    /// Loads a list into the empty table.
-    fn load(&mut self, list: &[u8]) -> (u32, usize)
-        requires { flights_of self.old.table ≡ [] }
-        ensures does { ((program_of self.new.condition (E.Element.span self.new.element) self.new.table), answer result) ≡ loaded (setting_of (R.Register.owner self.old.register) (R.Register.carrier self.old.register) (E.Element.means self.old.element)) (program_of self.old.condition (E.Element.span self.old.element) self.old.table) list.now }
+    /// Loads a list into the table, which is empty without a program.
+    fn load(&mut self, list: &[u8]) -> Result<usize, Failure>
+        ensures does { Does (setting self.old) (program self.old) (issue list.now) (program self.new) (pair_of result) }
         ensures register { self.new.register ≡ self.old.register }
         ensures element { E.Element.means self.new.element ≡ E.Element.means self.old.element }
     {
+        self.allows(Operation::Issue)?;
         if list.len() > LARGEST_LIST {
-            return (651, 0);
+            return Err(Failure::from(Refusal::LongInput));
         }
         match read_list(&mut self.table, &self.element, list) {
             Ok(days) => {
                 self.element.set_days(days);
                 self.condition = Condition::On;
-                (0, 0)
+                Ok(0)
             }
-            Err(line) => (802, line),
+            Err(line) => Err(Failure {
+                why: Refusal::FaultyList,
+                second: line,
+            }),
         }
     }
 
-    /// Marks the flight that four texts name as departed.
-    fn mark(&mut self, id: &[u8], departure: &[u8], arrival: &[u8], date: &[u8]) -> (u32, usize)
-        ensures does { ((program_of self.new.condition (E.Element.span self.new.element) self.new.table), answer result) ≡ marked (program_of self.old.condition (E.Element.span self.old.element) self.old.table) id.now departure.now arrival.now date.now }
+    /// Sets the program on or off.
+    fn set(&mut self, on: bool) -> Result<usize, Failure>
+        ensures does { Does (setting self.old) (program self.old) (switch on) (program self.new) (pair_of result) }
         ensures register { self.new.register ≡ self.old.register }
         ensures element { E.Element.means self.new.element ≡ E.Element.means self.old.element }
     {
-        let Some(identity) = Identity::read(id, departure, arrival, date) else {
-            return (705, 0);
-        };
+        self.allows(Operation::Switch)?;
+        self.condition = if on { Condition::On } else { Condition::Off };
+        Ok(0)
+    }
+
+    /// Ends the program and empties the table.
+    fn end(&mut self) -> Result<usize, Failure>
+        ensures does { Does (setting self.old) (program self.old) purge (program self.new) (pair_of result) }
+        ensures register { self.new.register ≡ self.old.register }
+        ensures element { E.Element.means self.new.element ≡ E.Element.means self.old.element }
+    {
+        self.allows(Operation::Purge)?;
+        self.table.clear();
+        self.condition = Condition::NoProgram;
+        Ok(0)
+    }
+
+    /// Marks the flight that four texts name as departed.
+    fn mark(&mut self, flight: FlightTexts) -> Result<usize, Failure>
+        ensures does { Does (setting self.old) (program self.old) (departure_of flight.entry) (program self.new) (pair_of result) }
+        ensures register { self.new.register ≡ self.old.register }
+        ensures element { E.Element.means self.new.element ≡ E.Element.means self.old.element }
+    {
+        self.allows(Operation::Depart)?;
+        let identity = Identity::read(flight).ok_or(Refusal::NoFlight)?;
         if !self.table.has(&identity) {
-            return (705, 0);
+            return Err(Failure::from(Refusal::NoFlight));
         }
         self.table.depart(&identity);
-        (0, 0)
+        Ok(0)
     }
 
     /// Loads an issue list: a heading, and a line for each flight. 805 while a program is on or off,
     /// 651 for a list over 49,152 bytes, 802 with the number of the first faulty line.
     pub fn issue(&mut self, list: &[u8]) -> (u32, usize)
-        ensures does { Does (setting_of (R.Register.owner self.old.register) (R.Register.carrier self.old.register) (E.Element.means self.old.element)) (program_of self.old.condition (E.Element.span self.old.element) self.old.table) (issue list.now) (program_of self.new.condition (E.Element.span self.new.element) self.new.table) result }
-        ensures lasts { Lasts (setting_of (R.Register.owner self.old.register) (R.Register.carrier self.old.register) (E.Element.means self.old.element)) (program_of self.old.condition (E.Element.span self.old.element) self.old.table) (program_of self.new.condition (E.Element.span self.new.element) self.new.table) }
-        ensures unchanged { RefusedUnchanged (program_of self.old.condition (E.Element.span self.old.element) self.old.table) result.0 (program_of self.new.condition (E.Element.span self.new.element) self.new.table) }
+        ensures does { Does (setting self.old) (program self.old) (issue list.now) (program self.new) result }
+        ensures unchanged { RefusedUnchanged (program self.old) result.0 (program self.new) }
         ensures register { self.new.register ≡ self.old.register }
         ensures element { E.Element.means self.new.element ≡ E.Element.means self.old.element }
     {
-        if let Some(number) = self.refusal(Operation::Issue) {
-            return (number, 0);
-        }
-        self.load(list)
+        pair(self.load(list))
     }
 
     /// Sets the program on or off. 604 without a program.
     pub fn switch(&mut self, on: bool) -> (u32, usize)
-        ensures does { Does (setting_of (R.Register.owner self.old.register) (R.Register.carrier self.old.register) (E.Element.means self.old.element)) (program_of self.old.condition (E.Element.span self.old.element) self.old.table) (switch on) (program_of self.new.condition (E.Element.span self.new.element) self.new.table) result }
-        ensures lasts { Lasts (setting_of (R.Register.owner self.old.register) (R.Register.carrier self.old.register) (E.Element.means self.old.element)) (program_of self.old.condition (E.Element.span self.old.element) self.old.table) (program_of self.new.condition (E.Element.span self.new.element) self.new.table) }
-        ensures unchanged { RefusedUnchanged (program_of self.old.condition (E.Element.span self.old.element) self.old.table) result.0 (program_of self.new.condition (E.Element.span self.new.element) self.new.table) }
+        ensures does { Does (setting self.old) (program self.old) (switch on) (program self.new) result }
+        ensures unchanged { RefusedUnchanged (program self.old) result.0 (program self.new) }
         ensures register { self.new.register ≡ self.old.register }
         ensures element { E.Element.means self.new.element ≡ E.Element.means self.old.element }
     {
-        if let Some(number) = self.refusal(Operation::Switch) {
-            return (number, 0);
-        }
-        self.condition = condition_for(on);
-        (0, 0)
+        pair(self.set(on))
     }
 
     /// Ends the program and empties the table. 604 without a program.
     pub fn purge(&mut self) -> (u32, usize)
-        ensures does { Does (setting_of (R.Register.owner self.old.register) (R.Register.carrier self.old.register) (E.Element.means self.old.element)) (program_of self.old.condition (E.Element.span self.old.element) self.old.table) purge (program_of self.new.condition (E.Element.span self.new.element) self.new.table) result }
-        ensures lasts { Lasts (setting_of (R.Register.owner self.old.register) (R.Register.carrier self.old.register) (E.Element.means self.old.element)) (program_of self.old.condition (E.Element.span self.old.element) self.old.table) (program_of self.new.condition (E.Element.span self.new.element) self.new.table) }
-        ensures unchanged { RefusedUnchanged (program_of self.old.condition (E.Element.span self.old.element) self.old.table) result.0 (program_of self.new.condition (E.Element.span self.new.element) self.new.table) }
+        ensures does { Does (setting self.old) (program self.old) purge (program self.new) result }
+        ensures unchanged { RefusedUnchanged (program self.old) result.0 (program self.new) }
         ensures register { self.new.register ≡ self.old.register }
         ensures element { E.Element.means self.new.element ≡ E.Element.means self.old.element }
     {
-        if let Some(number) = self.refusal(Operation::Purge) {
-            return (number, 0);
-        }
-        self.table.clear();
-        self.condition = Condition::NoProgram;
-        (0, 0)
+        pair(self.end())
     }
 
     /// Marks the flight that four texts name as departed. 604 without a program, 705 where no flight
     /// has that identity or the texts are none.
-    pub fn depart(
-        &mut self,
-        id: &[u8],
-        departure: &[u8],
-        arrival: &[u8],
-        date: &[u8],
-    ) -> (u32, usize)
-        ensures does { Does (setting_of (R.Register.owner self.old.register) (R.Register.carrier self.old.register) (E.Element.means self.old.element)) (program_of self.old.condition (E.Element.span self.old.element) self.old.table) (depart id.now departure.now arrival.now date.now) (program_of self.new.condition (E.Element.span self.new.element) self.new.table) result }
-        ensures lasts { Lasts (setting_of (R.Register.owner self.old.register) (R.Register.carrier self.old.register) (E.Element.means self.old.element)) (program_of self.old.condition (E.Element.span self.old.element) self.old.table) (program_of self.new.condition (E.Element.span self.new.element) self.new.table) }
-        ensures unchanged { RefusedUnchanged (program_of self.old.condition (E.Element.span self.old.element) self.old.table) result.0 (program_of self.new.condition (E.Element.span self.new.element) self.new.table) }
+    pub fn depart(&mut self, flight: FlightTexts) -> (u32, usize)
+        ensures does { Does (setting self.old) (program self.old) (departure_of flight.entry) (program self.new) result }
+        ensures unchanged { RefusedUnchanged (program self.old) result.0 (program self.new) }
         ensures register { self.new.register ≡ self.old.register }
         ensures element { E.Element.means self.new.element ≡ E.Element.means self.old.element }
     {
-        if let Some(number) = self.refusal(Operation::Depart) {
-            return (number, 0);
-        }
-        self.mark(id, departure, arrival, date)
+        pair(self.mark(flight))
     }
 }

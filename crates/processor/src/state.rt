@@ -1,6 +1,6 @@
 ghost use Rattle.std.specs.Prelude.{◌≡◌, true};
-ghost use Rattle.flights.specs.Kept.{flights_of};
-ghost use Rattle.model.specs.Model.{none_without};
+ghost use Rattle.model.specs.Model.{program_stands};
+ghost use Rattle.processor.specs.Kept.{program_of};
 
 use element::Element;
 use flights::Table;
@@ -8,12 +8,12 @@ use model::Condition;
 use register::Register;
 
 /// The processor of one program for one controlled element: one engine for all registers and
-/// elements. Without a program its table is empty.
+/// elements. Its program keeps the standing rules at all times.
 #[derive(Drop)]
 pub struct Processor<R: Register + Drop, E: Element + Drop> {
     pub(crate) register: R,
     pub(crate) element: E,
     pub(crate) condition: Condition,
     pub(crate) table: Table,
-    ghost idle: { none_without condition (flights_of table) ≡ true },
+    ghost stands: { program_stands (E.Element.means element) (program_of condition (E.Element.span element) table) ≡ true },
 }

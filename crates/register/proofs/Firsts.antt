@@ -1,23 +1,20 @@
 -- The first row whose key passes a test.
-use Rattle.std.proofs.Common.{◌≡◌, ℕ, suc, ◌+◌, ◌<◌, Bool, true, false, cond, List, [], ◌∷◌, ◌++◌, length, get_or, drop, Some, None, Option, sym, refl, ap, ◌∙◌, add-one, drop-cons}
-use lib.Seq.{drop-length}
-use Rattle.std.specs.Option.{option_or}
+use Rattle.std.proofs.Common.{◌≡◌, Bool, true, false, cond, List, [], ◌∷◌, ◌++◌, Some, None, Option, refl, ap, ◌∙◌}
+use Rattle.std.specs.Option.{option_map, option_or}
+use Rattle.std.specs.List.{find}
 use Rattle.std.specs.Bool.{then_some}
 use Rattle.register.specs.declared.rows.Row.{Row}
 use Rattle.register.specs.Users.{number_of}
 use Rattle.register.specs.Tables.{first_with}
 
-first_at : {K : Type 0} (test : K → Bool) (rows : List (Row K)) (i : ℕ) (row : Row K) → i < length rows → row ≡ get_or rows i row → first_with test (drop i rows) ≡ cond (test row.key) (Some (number_of row.user)) (first_with test (drop (i + 1) rows))
-first_at test rows i row h e = rw (add-one i) (ap (first_with test) (drop-cons rows i row h ∙ ap (λ y. y ∷ drop (suc i) rows) (sym e)))
+found : {X Y : Type 0} (f : X → Y) (b : Bool) (x : X) (r : Option X) → option_map f (cond b (Some x) r) ≡ cond b (Some (f x)) (option_map f r)
+found f true x r = refl
+found f false x r = refl
 
-pub first_hit : {K : Type 0} (test : K → Bool) (rows : List (Row K)) (i : ℕ) (row : Row K) → i < length rows → row ≡ get_or rows i row → test row.key ≡ true → first_with test (drop i rows) ≡ Some (number_of row.user)
-first_hit test rows i row h e s = first_at test rows i row h e ∙ ap (λ b. cond b (Some (number_of row.user)) (first_with test (drop (i + 1) rows))) s
-
-pub first_miss : {K : Type 0} (test : K → Bool) (rows : List (Row K)) (i : ℕ) (row : Row K) → i < length rows → row ≡ get_or rows i row → test row.key ≡ false → first_with test (drop i rows) ≡ first_with test (drop (i + 1) rows)
-first_miss test rows i row h e s = first_at test rows i row h e ∙ ap (λ b. cond b (Some (number_of row.user)) (first_with test (drop (i + 1) rows))) s
-
-pub first_none : {K : Type 0} (test : K → Bool) (rows : List (Row K)) (i : ℕ) → i ≡ length rows → first_with test (drop i rows) ≡ None
-first_none test rows i e = ap (λ n. first_with test (drop n rows)) e ∙ ap (first_with test) (drop-length rows)
+-- it is the first of the rows that does
+pub first_found : {K : Type 0} (test : K → Bool) (rows : List (Row K)) → option_map (λ row. number_of row.user) (find (λ row. test row.key) rows) ≡ first_with test rows
+first_found test [] = refl
+first_found test (row ∷ rows) = found (λ r. number_of r.user) (test row.key) row _ ∙ ap (λ r. cond (test row.key) (Some (number_of row.user)) r) (first_found test rows)
 
 only : {U : Type 0} (b : Bool) (u : U) → cond b (Some u) None ≡ then_some b u
 only true u = refl

@@ -6,7 +6,7 @@ use Rattle.register.specs.declared.user.User.{User}
 use Rattle.register.specs.declared.rows.Row.{Row}
 use Rattle.register.specs.declared.rows.Rows.{Rows}
 use Rattle.register.specs.Users.{number_of}
-use Rattle.register.specs.Tables.{first_with, rows_of, count}
+use Rattle.register.specs.Tables.{first_with}
 use Rattle.register.specs.Known.{Offered}
 use Rattle.register.specs.Registers.{known_by}
 use Rattle.register.proofs.Firsts.{first_push}
@@ -20,10 +20,10 @@ size : {X : Type 0} (added : Bool) (xs : List X) (x : X) → length (cond added 
 size true xs x = length-append xs (x ∷ [])
 size false xs x = refl
 
-pub offered : {K Q : Type 0} (about : Q → K → Bool) (added : Bool) (key : K) (user : User) (t t' : Rows K) → added ≡ ltb (count t) 64 → rows_of t' ≡ cond added (rows_of t ++ record { key = key; user = user } ∷ []) (rows_of t) → Offered added (λ asked. about asked key) (number_of user) (known_by about t) (known_by about t')
+pub offered : {K Q : Type 0} (about : Q → K → Bool) (added : Bool) (key : K) (user : User) (t t' : Rows K) → added ≡ ltb (length t) 64 → t' ≡ cond added (t ++ record { key = key; user = user } ∷ []) (t) → Offered added (λ asked. about asked key) (number_of user) (known_by about t) (known_by about t')
 offered about added key user t t' told rows =
     record {
       told = told;
-      says = λ asked. ap (first_with (about asked)) rows ∙ says (about asked) added (rows_of t) (record { key = key; user = user });
-      size = ap length rows ∙ size added (rows_of t) (record { key = key; user = user });
+      says = λ asked. ap (first_with (about asked)) rows ∙ says (about asked) added (t) (record { key = key; user = user });
+      size = ap length rows ∙ size added (t) (record { key = key; user = user });
     }

@@ -2,18 +2,14 @@
 
 #![tactic(auto)]
 
-mod arinc;
-mod asks;
-mod cdmnet;
 mod keys;
 mod meaning;
 mod rows;
-mod table;
 mod user;
-mod values;
+mod user_register;
 
-pub use arinc::ArincRegister;
-pub use cdmnet::CdmnetRegister;
-pub use keys::{Address, Capitals, CarrierCode, Client};
+pub use keys::{Address, Capitals, CarrierCode, Client, NotCapitals};
 pub use meaning::Register;
-pub use user::User;
+pub use rows::Full;
+pub use user::{NoUser, User};
+pub use user_register::{ArincRegister, CdmnetRegister, UserRegister};

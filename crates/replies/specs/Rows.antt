@@ -4,8 +4,8 @@ use Rattle.std.specs.List.{flat_map}
 use Rattle.calendar.specs.Days.{Days, Minute, time_written}
 use Rattle.element.specs.Meanings.{Meaning}
 use Rattle.flights.specs.declared.flight.ControlType.{ControlType}
-use Rattle.flights.specs.declared.flight.ControlType.TheVariants.{Gdp, Comp, Blkt, Gs, Sub, Fa, Upd}
 use Rattle.flights.specs.Flights.{Flight}
+use Rattle.flights.specs.Words.{word_of}
 use Rattle.replies.specs.Names.{slot_shown}
 
 -- a field and the space after it
@@ -18,13 +18,7 @@ mark false = codes "-"
 
 abbrev pub type_shown : Option ControlType → List ℕ
 type_shown None = codes "-"
-type_shown (Some Gdp) = codes "GDP"
-type_shown (Some Comp) = codes "COMP"
-type_shown (Some Blkt) = codes "BLKT"
-type_shown (Some Gs) = codes "GS"
-type_shown (Some Sub) = codes "SUB"
-type_shown (Some Fa) = codes "FA"
-type_shown (Some Upd) = codes "UPD"
+type_shown (Some t) = word_of t
 
 abbrev pub time_shown : Days → Option Minute → List ℕ
 time_shown d None = codes "-"

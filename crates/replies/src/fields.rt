@@ -1,142 +1,56 @@
-ghost use Rattle.std.specs.Prelude.{◌≡◌, ◌+◌, ◌≤◌, [], ◌∷◌, ◌++◌, length, drop};
+ghost use Rattle.std.specs.Prelude.{◌≡◌, ◌+◌, ◌≤◌, length, drop};
 ghost use Rattle.std.specs.Option.{option_map};
-ghost use Rattle.calendar.specs.Days.{days_of, minute_of, time_written};
-ghost use Rattle.calendar.specs.Identities.{identity_of};
-ghost use Rattle.flights.specs.Kept.{flight_of};
-ghost use Rattle.writing.specs.Overlay.{Wrote};
-ghost use Rattle.replies.specs.Names.{slot_shown};
+ghost use Rattle.calendar.specs.Days.{days_of, minute_of};
+ghost use Rattle.writing.specs.Writers.{HasRoom, Puts};
 ghost use Rattle.replies.specs.Rows.{spaced, mark, type_shown, time_shown};
 
-use crate::names::slot_shown;
-use calendar::{Days, Identity, Minute};
-use element::Element;
-use flights::{ControlType, Flight};
-use writing::{put, put_byte};
+use calendar::Minute;
+use element::{Element, Naming};
+use flights::ControlType;
+use writing::Writer;
 
 /// A field and the space after it.
-fn put_field(out: &mut [u8], at: usize, bytes: &[u8]) -> usize
-    requires { at + length bytes.now + 1 ≤ length out.old }
-    ensures wrote { Wrote out.old at (spaced bytes.now) out.new result }
-    ensures most { result ≤ at + length bytes.now + 1 }
+pub(crate) fn put_field(reply: &mut Writer, text: &[u8])
+    requires room { HasRoom reply.old (length text.now + 1) }
+    ensures puts { Puts reply.old (spaced text.now) reply.new }
+    ensures most { reply.new.written ≤ reply.old.written + length text.now + 1 }
 {
-    let end = put(out, at, bytes);
-    put_byte(out, end, b' ')
+    reply.put(text);
+    reply.put_byte(b' ');
 }
 
-/// The flight's ID.
-pub(crate) fn put_id(out: &mut [u8], at: usize, identity: &Identity) -> usize
-    requires { at + 8 ≤ length out.old }
-    ensures wrote { Wrote out.old at (spaced (identity_of identity.now).id) out.new result }
-    ensures most { result ≤ at + 8 }
-{
-    put_field(out, at, identity.id())
-}
-
-/// The departure airport.
-pub(crate) fn put_departure(out: &mut [u8], at: usize, identity: &Identity) -> usize
-    requires { at + 5 ≤ length out.old }
-    ensures wrote { Wrote out.old at (spaced (identity_of identity.now).departure) out.new result }
-    ensures most { result ≤ at + 5 }
-{
-    put_field(out, at, identity.departure())
-}
-
-/// The arrival airport.
-pub(crate) fn put_arrival(out: &mut [u8], at: usize, identity: &Identity) -> usize
-    requires { at + 5 ≤ length out.old }
-    ensures wrote { Wrote out.old at (spaced (identity_of identity.now).arrival) out.new result }
-    ensures most { result ≤ at + 5 }
-{
-    put_field(out, at, identity.arrival())
-}
-
-/// The name shown for the flight's slot.
-pub(crate) fn put_slot<E: Element>(
-    out: &mut [u8],
-    at: usize,
-    element: &E,
-    days: &Days,
-    flight: &Flight,
-) -> usize
-    requires { at + 15 ≤ length out.old }
-    ensures wrote { Wrote out.old at (spaced (slot_shown (E.Element.means element.now) (days_of days.now) (flight_of flight.now))) out.new result }
-    ensures most { result ≤ at + 15 }
-{
-    let name = slot_shown(element, days, flight);
-    put_field(out, at, name.as_bytes())
-}
-
-/// The six digits of a minute.
-pub(crate) fn put_time(out: &mut [u8], at: usize, days: &Days, minute: Minute) -> usize
-    requires { at + 7 ≤ length out.old }
-    ensures wrote { Wrote out.old at (spaced (time_written (days_of days.now) (minute_of minute))) out.new result }
-    ensures most { result ≤ at + 7 }
-{
-    let time = days.write_time(minute);
-    put_field(out, at, &time)
-}
-
-/// The six digits of a minute, where there is one.
-pub(crate) fn put_time_or_none(
-    out: &mut [u8],
-    at: usize,
-    days: &Days,
-    minute: Option<Minute>,
-) -> usize
-    requires { at + 7 ≤ length out.old }
-    ensures wrote { Wrote out.old at (spaced (time_shown (days_of days.now) (option_map minute_of minute))) out.new result }
-    ensures most { result ≤ at + 7 }
+/// The six digits of a minute as a field, and `-` where there is none.
+pub(crate) fn put_time<E: Element>(reply: &mut Writer, naming: &Naming<E>, minute: Option<Minute>)
+    requires room { HasRoom reply.old 7 }
+    ensures puts { Puts reply.old (spaced (time_shown (days_of naming.now.days) (option_map minute_of minute))) reply.new }
+    ensures most { reply.new.written ≤ reply.old.written + 7 }
 {
     match minute {
-        Some(minute) => put_time(out, at, days, minute),
-        None => put_field(out, at, b"-"),
+        Some(minute) => put_field(reply, &naming.write_time(minute)),
+        None => put_field(reply, b"-"),
     }
 }
 
-/// The word of a type.
-pub(crate) fn put_type(out: &mut [u8], at: usize, control: Option<ControlType>) -> usize
-    requires { at + 5 ≤ length out.old }
-    ensures wrote { Wrote out.old at (spaced (type_shown control)) out.new result }
-    ensures most { result ≤ at + 5 }
+/// The word of a type, and `-` where there is none.
+pub(crate) fn type_shown(control: Option<ControlType>) -> &'static [u8]
+    ensures word { result.now ≡ type_shown control }
+    ensures short { length result.now ≤ 4 }
 {
-    match control {
-        Some(ControlType::Gdp) => put_field(out, at, b"GDP"),
-        Some(ControlType::Comp) => put_field(out, at, b"COMP"),
-        Some(ControlType::Blkt) => put_field(out, at, b"BLKT"),
-        Some(ControlType::Gs) => put_field(out, at, b"GS"),
-        Some(ControlType::Sub) => put_field(out, at, b"SUB"),
-        Some(ControlType::Fa) => put_field(out, at, b"FA"),
-        Some(ControlType::Upd) => put_field(out, at, b"UPD"),
-        None => put_field(out, at, b"-"),
-    }
+    control.map_or(b"-", ControlType::word)
 }
 
 /// Whether something holds: `Y` or `-`.
-pub(crate) fn put_mark(out: &mut [u8], at: usize, holds: bool) -> usize
-    requires { at + 2 ≤ length out.old }
-    ensures wrote { Wrote out.old at (spaced (mark holds)) out.new result }
-    ensures most { result ≤ at + 2 }
+pub(crate) fn mark(holds: bool) -> &'static [u8]
+    ensures letter { result.now ≡ mark holds }
+    ensures short { length result.now ≤ 1 }
 {
-    if holds {
-        put_field(out, at, b"Y")
-    } else {
-        put_field(out, at, b"-")
-    }
+    if holds { b"Y" } else { b"-" }
 }
 
 /// A text without its first two bytes.
-fn past_two(text: &[u8]) -> &[u8]
-    ensures { result.now ≡ drop 2 text.now }
+pub(crate) fn past_two(text: &[u8]) -> &[u8]
+    ensures rest { result.now ≡ drop 2 text.now }
+    ensures short { length result.now ≤ length text.now }
 {
-    if text.len() < 2 { b"" } else { &text[2..] }
-}
-
-/// The last six digits of the date, and LF.
-pub(crate) fn put_date(out: &mut [u8], at: usize, identity: &Identity) -> usize
-    requires { at + 7 ≤ length out.old }
-    ensures wrote { Wrote out.old at (drop 2 (identity_of identity.now).date ++ (10 ∷ [])) out.new result }
-    ensures most { result ≤ at + 7 }
-{
-    let end = put(out, at, past_two(identity.date()));
-    put_byte(out, end, b'\n')
+    text.get(2..).unwrap_or(b"")
 }

@@ -6,8 +6,7 @@ ghost use Rattle.element.specs.Kept.{slot_of};
 ghost use Rattle.flights.specs.Kept.{flight_of};
 ghost use Rattle.replies.specs.Names.{pair_shown, slot_shown, NamesReadAgain};
 
-use calendar::Days;
-use element::{Element, Slot, SlotName};
+use element::{Element, Naming, Slot, SlotName};
 use flights::{ControlType, Flight};
 use text::ShortText;
 
@@ -15,30 +14,27 @@ use text::ShortText;
 fn pair_shown(flight: &Flight) -> Option<Slot>
     ensures { option_map slot_of result ≡ pair_shown (flight_of flight.now) }
 {
-    match flight.slot {
-        Some(slot) => Some(slot),
-        None => match flight.control {
-            Some(ControlType::Fa) => Some(Slot::pop_up(flight.cta)),
-            _ => None,
-        },
+    match (flight.slot, flight.control) {
+        (None, Some(ControlType::Fa)) => Some(Slot::pop_up(flight.cta)),
+        (slot, _) => slot,
     }
 }
 
 /// The name of that pair, and `-` where there is none.
-pub(crate) fn slot_shown<E: Element>(element: &E, days: &Days, flight: &Flight) -> SlotName
-    ensures { text_of result ≡ slot_shown (E.Element.means element.now) (days_of days.now) (flight_of flight.now) }
+pub(crate) fn slot_shown<E: Element>(naming: &Naming<E>, flight: &Flight) -> SlotName
+    ensures { text_of result ≡ slot_shown (E.Element.means naming.now.element.now) (days_of naming.now.days) (flight_of flight.now) }
 {
     match pair_shown(flight) {
-        Some(pair) => element.write_name(days, &pair),
+        Some(pair) => naming.write_name(&pair),
         None => ShortText::joined(b"-", b""),
     }
 }
 
 /// The pair that is read of the name shown: it is the one whose name is shown.
-pub fn read_again<E: Element>(element: &E, days: &Days, flight: &Flight) -> Option<Slot>
+pub fn read_again<E: Element>(naming: &Naming<E>, flight: &Flight) -> Option<Slot>
     ensures pair { option_map slot_of result ≡ pair_shown (flight_of flight.now) }
     ensures law { NamesReadAgain }
 {
-    let name = slot_shown(element, days, flight);
-    element.read_name(days, name.as_bytes())
+    let name = slot_shown(naming, flight);
+    naming.read_name(name.as_bytes())
 }

@@ -1,32 +1,33 @@
 ghost use Rattle.std.specs.Prelude.{◌+◌, ◌≤◌, length};
-ghost use Rattle.writing.specs.Overlay.{Wrote};
+ghost use Rattle.writing.specs.Writers.{HasRoom, Puts};
 ghost use Rattle.replies.specs.Openings.{accepted, list_opening};
 
 use element::Element;
-use writing::put;
+use writing::Writer;
 
 /// The first line of the answer to an accepted packet with this identifier.
-pub fn put_accepted(out: &mut [u8], at: usize, id: &[u8]) -> usize
-    requires { (length id.now ≤ 16) × (at + 30 ≤ length out.old) }
-    ensures wrote { Wrote out.old at (accepted id.now) out.new result }
-    ensures most { result ≤ at + 30 }
+pub fn put_accepted(reply: &mut Writer, id: &[u8])
+    requires short { length id.now ≤ 16 }
+    requires room { HasRoom reply.old 30 }
+    ensures puts { Puts reply.old (accepted id.now) reply.new }
+    ensures most { reply.new.written ≤ reply.old.written + 30 }
 {
-    let end = put(out, at, b"SS ");
-    let end = put(out, end, id);
-    put(out, end, b" ACCEPTED.\n")
+    reply.put(b"SS ");
+    reply.put(id);
+    reply.put(b" ACCEPTED.\n");
 }
 
 /// What stands before the rows of the element's slot list: its title, an empty line and the words of
 /// its columns.
-pub fn put_list_opening<E: Element>(out: &mut [u8], at: usize, element: &E) -> usize
-    requires { at + 75 ≤ length out.old }
-    ensures wrote { Wrote out.old at (list_opening (E.Element.means element.now)) out.new result }
-    ensures most { result ≤ at + 75 }
+pub fn put_list_opening<E: Element>(reply: &mut Writer, element: &E)
+    requires room { HasRoom reply.old 75 }
+    ensures puts { Puts reply.old (list_opening (E.Element.means element.now)) reply.new }
+    ensures most { reply.new.written ≤ reply.old.written + 75 }
 {
-    let end = put(out, at, b"SLOT LIST for ");
-    let end = put(out, end, element.name());
-    let end = put(out, end, b"\n\n");
-    let end = put(out, end, b"ACID ASLOT DEP ARR CTD CTA TYPE EX CX SH ");
-    let end = put(out, end, element.column_word());
-    put(out, end, b" IGTD\n")
+    reply.put(b"SLOT LIST for ");
+    reply.put(element.name());
+    reply.put(b"\n\n");
+    reply.put(b"ACID ASLOT DEP ARR CTD CTA TYPE EX CX SH ");
+    reply.put(element.column_word());
+    reply.put(b" IGTD\n");
 }

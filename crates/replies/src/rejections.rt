@@ -1,45 +1,45 @@
-ghost use Rattle.std.specs.Prelude.{◌+◌, ◌<◌, ◌≤◌, length};
-ghost use Rattle.writing.specs.Overlay.{Wrote};
+ghost use Rattle.std.specs.Prelude.{◌≡◌, ◌+◌, ◌≤◌, length};
+ghost use Rattle.model.specs.Refusals.{number};
+ghost use Rattle.writing.specs.Writers.{HasRoom, Puts};
 ghost use Rattle.replies.specs.Rejections.{error_word, rejected, fault};
 
-use writing::{put, put_number};
+use model::Refusal;
+use writing::Writer;
 
 /// ` ERROR.` after the number 1, and ` ERRORS.` after another.
-fn put_error_word(out: &mut [u8], at: usize, errors: u32) -> usize
-    requires { at + 8 ≤ length out.old }
-    ensures wrote { Wrote out.old at (error_word errors) out.new result }
-    ensures most { result ≤ at + 8 }
+fn error_word(errors: usize) -> &'static [u8]
+    ensures word { result.now ≡ error_word errors }
+    ensures short { length result.now ≤ 8 }
 {
-    if errors == 1 {
-        put(out, at, b" ERROR.")
-    } else {
-        put(out, at, b" ERRORS.")
-    }
+    if errors == 1 { b" ERROR." } else { b" ERRORS." }
 }
 
 /// What stands before the faulty lines of a rejected packet: the line with its identifier and the
 /// number of errors, and an empty line.
-pub fn put_rejected(out: &mut [u8], at: usize, id: &[u8], errors: u32) -> usize
-    requires { (length id.now ≤ 16) × ((errors ≤ 64) × (at + 43 ≤ length out.old)) }
-    ensures wrote { Wrote out.old at (rejected id.now errors) out.new result }
-    ensures most { result ≤ at + 43 }
+pub fn put_rejected(reply: &mut Writer, id: &[u8], errors: usize)
+    requires short { length id.now ≤ 16 }
+    requires few { errors ≤ 64 }
+    requires room { HasRoom reply.old 43 }
+    ensures puts { Puts reply.old (rejected id.now errors) reply.new }
+    ensures most { reply.new.written ≤ reply.old.written + 43 }
 {
-    let end = put(out, at, b"SS ");
-    let end = put(out, end, id);
-    let end = put(out, end, b" REJECTED. ");
-    let end = put_number(out, end, errors);
-    let end = put_error_word(out, end, errors);
-    put(out, end, b"\n\n")
+    reply.put(b"SS ");
+    reply.put(id);
+    reply.put(b" REJECTED. ");
+    reply.put_number(errors as u32);
+    reply.put(error_word(errors));
+    reply.put(b"\n\n");
 }
 
 /// A faulty line, and the line with the number of its error.
-pub fn put_fault(out: &mut [u8], at: usize, text: &[u8], number: u32) -> usize
-    requires { (length text.now ≤ 160) × ((number < 1000) × (at + 169 ≤ length out.old)) }
-    ensures wrote { Wrote out.old at (fault text.now number) out.new result }
-    ensures most { result ≤ at + 169 }
+pub fn put_fault(reply: &mut Writer, text: &[u8], refusal: Refusal)
+    requires short { length text.now ≤ 160 }
+    requires room { HasRoom reply.old 169 }
+    ensures puts { Puts reply.old (fault text.now (number refusal)) reply.new }
+    ensures most { reply.new.written ≤ reply.old.written + 169 }
 {
-    let end = put(out, at, text);
-    let end = put(out, end, b"\nERR ");
-    let end = put_number(out, end, number);
-    put(out, end, b"\n")
+    reply.put(text);
+    reply.put(b"\nERR ");
+    reply.put_number(refusal.number());
+    reply.put(b"\n");
 }

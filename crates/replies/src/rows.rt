@@ -1,79 +1,54 @@
-ghost use Rattle.std.specs.Prelude.{◌+◌, ◌*◌, ◌≤◌, map, length};
+ghost use Rattle.std.specs.Prelude.{Bool, ◌+◌, ◌*◌, ◌≤◌, map, length};
+ghost use Rattle.std.specs.Fn.{FnReturnsAt};
 ghost use Rattle.calendar.specs.Days.{days_of};
-ghost use Rattle.flights.specs.Kept.{flight_of};
-ghost use Rattle.writing.specs.Overlay.{Wrote};
-ghost use Rattle.replies.specs.Rows.{row, row_for, rows};
+ghost use Rattle.flights.specs.Flights.{Flight as FlightMeant};
+ghost use Rattle.flights.specs.Kept.{Chooses, flight_of};
+ghost use Rattle.writing.specs.Writers.{HasRoom, Puts};
+ghost use Rattle.replies.specs.Rows.{row, rows};
 
-use crate::fields::{
-    put_arrival, put_date, put_departure, put_id, put_mark, put_slot, put_time, put_time_or_none,
-    put_type,
-};
-use calendar::Days;
-use element::Element;
-use flights::{Chooses, Flight};
+use crate::fields::{mark, past_two, put_field, put_time, type_shown};
+use crate::names::slot_shown;
+use element::{Element, Naming};
+use flights::Flight;
+use writing::Writer;
 
 /// The row of a flight.
-fn put_row<E: Element>(
-    out: &mut [u8],
-    at: usize,
-    element: &E,
-    days: &Days,
-    flight: &Flight,
-) -> usize
-    requires { at + 72 ≤ length out.old }
-    ensures wrote { Wrote out.old at (row (E.Element.means element.now) (days_of days.now) (flight_of flight.now)) out.new result }
-    ensures most { result ≤ at + 72 }
+fn put_row<E: Element>(reply: &mut Writer, naming: &Naming<E>, flight: &Flight)
+    requires room { HasRoom reply.old 72 }
+    ensures puts { Puts reply.old (row (E.Element.means naming.now.element.now) (days_of naming.now.days) (flight_of flight.now)) reply.new }
+    ensures most { reply.new.written ≤ reply.old.written + 72 }
 {
-    let end = put_id(out, at, &flight.identity);
-    let end = put_slot(out, end, element, days, flight);
-    let end = put_departure(out, end, &flight.identity);
-    let end = put_arrival(out, end, &flight.identity);
-    let end = put_time(out, end, days, flight.ctd);
-    let end = put_time(out, end, days, flight.cta);
-    let end = put_type(out, end, flight.control);
-    let end = put_mark(out, end, flight.exempt);
-    let end = put_mark(out, end, flight.cancelled);
-    let end = put_mark(out, end, flight.hold);
-    let end = put_time_or_none(out, end, days, flight.erta);
-    put_date(out, end, &flight.identity)
-}
-
-/// The row of the flight, where it is chosen.
-fn put_chosen<E: Element, C: Chooses>(
-    out: &mut [u8],
-    at: usize,
-    element: &E,
-    days: &Days,
-    flight: &Flight,
-    choice: &C,
-) -> usize
-    requires { at + 72 ≤ length out.old }
-    ensures wrote { Wrote out.old at (row_for (E.Element.means element.now) (days_of days.now) (C.Chooses.chosen choice.now) (flight_of flight.now)) out.new result }
-    ensures most { result ≤ at + 72 }
-{
-    if choice.chooses(flight) {
-        put_row(out, at, element, days, flight)
-    } else {
-        at
-    }
+    let identity = &flight.identity;
+    put_field(reply, identity.id());
+    put_field(reply, slot_shown(naming, flight).as_bytes());
+    put_field(reply, identity.departure());
+    put_field(reply, identity.arrival());
+    put_time(reply, naming, Some(flight.ctd));
+    put_time(reply, naming, Some(flight.cta));
+    put_field(reply, type_shown(flight.control));
+    put_field(reply, mark(flight.exempt));
+    put_field(reply, mark(flight.cancelled));
+    put_field(reply, mark(flight.hold));
+    put_time(reply, naming, flight.erta);
+    reply.put(past_two(identity.date()));
+    reply.put_byte(b'\n');
 }
 
 /// A row for each flight that is chosen, in the order of the flights.
-pub fn put_rows<E: Element, C: Chooses>(
-    out: &mut [u8],
-    at: usize,
-    element: &E,
-    days: &Days,
+pub fn put_rows<E: Element, C: Fn(&Flight) -> bool>(
+    reply: &mut Writer,
+    naming: &Naming<E>,
     flights: &[Flight],
-    choice: &C,
-) -> usize
-    requires { at + 72 * length flights.now ≤ length out.old }
-    ensures wrote { Wrote out.old at (rows (E.Element.means element.now) (days_of days.now) (C.Chooses.chosen choice.now) (map flight_of flights.now)) out.new result }
-    ensures most { result ≤ at + 72 * length flights.now }
+    choice: C,
+)
+    requires room { HasRoom reply.old (72 * length flights.now) }
+    requires callable { C.IsAlwaysCallable choice }
+    ensures puts { (t : FlightMeant → Bool) → Chooses (FnReturnsAt C.Fn choice) t → Puts reply.old (rows (E.Element.means naming.now.element.now) (days_of naming.now.days) t (map flight_of flights.now)) reply.new }
+    ensures most { reply.new.written ≤ reply.old.written + 72 * length flights.now }
 {
-    let mut end = at;
     for flight in flights {
-        end = put_chosen(out, end, element, days, flight, choice);
+        if choice(flight) {
+            put_row(reply, naming, flight);
+        }
     }
-    end
 }

@@ -1,21 +1,21 @@
 -- Messages of the code, as the definitions see them.
-use Rattle.std.specs.Prelude.{ℕ, List}
+use Rattle.std.specs.Prelude.{ℕ, List, None, Some, Option, Ok, Err, Result}
 use Rattle.std.specs.Borrow.{Bor}
 use Rattle.std.specs.Option.{option_map}
 use Rattle.calendar.specs.Days.{minute_of}
 use Rattle.calendar.specs.Identities.{identity_of}
 use Rattle.element.specs.Kept.{slot_of}
-use Rattle.substitutions.specs.declared.message.Tagged.{Tagged}
-use Rattle.substitutions.specs.declared.message.Tagged.TheVariants.{Absent, Invalid, Value}
+use Rattle.substitutions.specs.declared.message.Invalid.{Invalid}
 use Rattle.substitutions.specs.declared.message.Message.{Message as KeptMessage}
 use Rattle.substitutions.specs.declared.message.Seat.{Seat as KeptSeat}
 use Rattle.packets.specs.Given.{Given, absent, invalid, given}
 use Rattle.packets.specs.Messages.{Message, Seat}
 
-abbrev pub given_of : {X Y : Type 0} → (X → Y) → Tagged X → Given Y
-given_of f Absent = absent
-given_of f Invalid = invalid
-given_of f (Value x) = given (f x)
+-- what a tag gives
+abbrev pub given_of : {X Y : Type 0} → (X → Y) → Result (Option X) Invalid → Given Y
+given_of f (Err e) = invalid
+given_of f (Ok None) = absent
+given_of f (Ok (Some x)) = given (f x)
 
 abbrev pub kept_message : KeptMessage → Message
 kept_message m = record {

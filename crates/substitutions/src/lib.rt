@@ -6,5 +6,5 @@ mod asked;
 mod message;
 mod reading;
 
-pub use message::{Message, Seat, Tagged};
+pub use message::{Invalid, Message, Seat, Tagged};
 pub use reading::read_substitution;

@@ -2,13 +2,12 @@ use calendar::{Identity, Minute};
 use element::Slot;
 use messages::MessageType;
 
-/// What a tag gives: there is no such tag, its value is not valid, or it is this.
-#[derive(Clone, Copy)]
-pub enum Tagged<T> {
-    Absent,
-    Invalid,
-    Value(T),
-}
+/// The value of a tag is not valid.
+#[derive(Clone, Copy, Debug, PartialEq, Eq)]
+pub struct Invalid;
+
+/// What a tag gives: a value, nothing where there is no such tag, or that its value is not valid.
+pub type Tagged<T> = Result<Option<T>, Invalid>;
 
 /// What a message asks, by the element's names and days. The identity is absent where the date is
 /// not valid.

@@ -1,5 +1,6 @@
 -- Classes of bytes, and lists of them.
-use Rattle.std.specs.Prelude.{ℕ, Bool, true, ◌&&◌, ◌||◌, List, [], ◌∷◌, nat_le}
+use Rattle.std.specs.Prelude.{ℕ, Bool, ◌&&◌, ◌||◌, List, nat_le}
+use Rattle.std.specs.List.{list_all}
 
 -- a capital letter, A to Z
 abbrev pub is_capital : ℕ → Bool
@@ -14,5 +15,4 @@ is_capital_or_digit b = is_capital b || is_digit b
 
 -- whether each element passes the test
 abbrev pub each : {X : Type 0} → (X → Bool) → List X → Bool
-each test [] = true
-each test (x ∷ xs) = test x && each test xs
+each = list_all

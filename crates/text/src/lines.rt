@@ -1,41 +1,43 @@
-ghost use Rattle.std.specs.Prelude.{◌≡◌, ◌≤◌, [], ◌∷◌, length, IfSome, slice_index_or};
-ghost use Rattle.std.specs.List.{prefix_len};
-ghost use Rattle.text.specs.Parts.{parts, parts_of, is_other, chomped, Gives, at};
+ghost use Rattle.std.specs.Prelude.{◌≡◌, ◌≤◌, ◌==◌, [], ◌∷◌, length, slice_index_or};
+ghost use Rattle.std.specs.List.{prefix_len, position};
+ghost use Rattle.std.specs.Iterator.{YieldsFirstBy, item_count};
+ghost use Rattle.text.specs.Parts.{parts, parts_of, is_other, chomped, at};
 ghost use Rattle.text.specs.Lines.{lines, fields, line_of, lines_left, fields_left, clipped};
+
+/// Where the first `b` stands.
+fn first(s: &[u8], b: u8) -> Option<usize>
+    ensures { result ≡ position (λ x. x == b) s.now }
+{
+    s.iter().position(|x| *x == b)
+}
 
 /// How many bytes stand before the first `b`.
 pub fn run_len(s: &[u8], b: u8) -> usize
     ensures { result ≡ prefix_len (is_other b) s.now }
 {
-    for (i, x) in s.iter().enumerate() {
-        if *x == b {
-            return i;
-        }
-    }
-    s.len()
+    first(s, b).unwrap_or(s.len())
 }
 
 /// The bytes before the first `b`, and those after it where there is one.
+#[tactic(auto, using(crate::proofs::Cuts::parts_at, crate::proofs::Cuts::parts_whole, std::proofs::lemmas::List::take_rest))]
 fn cut(s: &[u8], b: u8) -> (&[u8], Option<&[u8]>)
     ensures { parts b s.now ≡ result.0.now ∷ parts_of b result.1 }
 {
-    let n = run_len(s, b);
-    if n < s.len() {
-        (&s[0..n], Some(&s[n + 1..]))
-    } else {
-        (s, None)
+    match first(s, b) {
+        Some(n) => (&s[..n], Some(&s[n + 1..])),
+        None => (s, None),
     }
 }
 
 /// Without the last byte, where that is `b`.
+#[tactic(auto, using(crate::proofs::Cuts::chomped_taken, crate::proofs::Cuts::chomped_kept))]
 fn chomp(s: &[u8], b: u8) -> &[u8]
     ensures { result.now ≡ chomped b s.now }
 {
-    let n = s.len();
-    if n == 0 {
-        return s;
+    match s.split_last() {
+        Some((last, front)) if *last == b => front,
+        _ => s,
     }
-    if s[n - 1] == b { &s[0..n - 1] } else { s }
 }
 
 /// The fields of a line, parted by exactly one space each.
@@ -50,11 +52,16 @@ impl<'a> Fields<'a> {
     {
         Fields { rest: Some(line) }
     }
+}
 
-    /// The next field, and none after the last.
-    pub fn next_field(&mut self) -> Option<&'a [u8]>
-        ensures { Gives at (fields_left self.old) result (fields_left self.new) }
-    {
+impl<'a> Iterator for Fields<'a> {
+    type Item = &'a [u8];
+
+    ghost next_gives = { YieldsFirstBy at fields_left };
+
+    ghost remaining = { item_count fields_left };
+
+    fn next(&mut self) -> Option<&'a [u8]> {
         let rest = self.rest?;
         let (field, after) = cut(rest, b' ');
         self.rest = after;
@@ -66,13 +73,13 @@ impl<'a> Fields<'a> {
 #[derive(Clone, Copy)]
 pub struct Line<'a> {
     pub text: &'a [u8],
+    // Kept: a flag beside the text, and no Option of it: the first bytes of a longer line are echoed too.
     pub readable: bool,
 }
 
 impl<'a> Line<'a> {
     fn new(all: &'a [u8]) -> Line<'a>
-        ensures line { line_of result ≡ clipped all.now }
-        ensures short { length result.text.now ≤ 160 }
+        ensures { line_of result ≡ clipped all.now }
     {
         if all.len() <= 160 {
             Line {
@@ -102,12 +109,16 @@ impl<'a> Lines<'a> {
             rest: Some(chomp(input, b'\n')),
         }
     }
+}
 
-    /// The next line, and none after the last.
-    pub fn next_line(&mut self) -> Option<Line<'a>>
-        ensures gives { Gives line_of (lines_left self.old) result (lines_left self.new) }
-        ensures short { IfSome result (λ l. length l.text.now ≤ 160) }
-    {
+impl<'a> Iterator for Lines<'a> {
+    type Item = Line<'a>;
+
+    ghost next_gives = { YieldsFirstBy line_of lines_left };
+
+    ghost remaining = { item_count lines_left };
+
+    fn next(&mut self) -> Option<Line<'a>> {
         let rest = self.rest?;
         let (all, after) = cut(rest, b'\n');
         self.rest = after;
@@ -119,24 +130,12 @@ impl<'a> Lines<'a> {
 pub fn count_fields(line: &[u8]) -> usize
     ensures { result ≡ length (fields line.now) }
 {
-    let mut n = 0;
-    let mut fields = Fields::new(line);
-    while let Some(_field) = fields.next_field() {
-        n += 1;
-    }
-    n
+    Fields::new(line).count()
 }
 
 /// The field with `k` fields before it, and the empty text where the line has no such field.
 pub fn field_at(line: &[u8], k: usize) -> &[u8]
     ensures { result.now ≡ slice_index_or (fields line.now) k [] }
 {
-    let mut fields = Fields::new(line);
-    for _ in 0..k {
-        let _ = fields.next_field();
-    }
-    match fields.next_field() {
-        Some(field) => field,
-        None => b"",
-    }
+    Fields::new(line).nth(k).unwrap_or(b"")
 }

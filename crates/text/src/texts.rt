@@ -1,9 +1,10 @@
 ghost use Rattle.std.specs.Prelude.{◌≡◌, ◌+◌, ◌≤◌, ◌++◌, length, take};
 ghost use Rattle.std.specs.Option.{option_map};
 ghost use Rattle.std.specs.Str.{bytes_eq};
+ghost use Rattle.std.specs.Cmp.{on_equiv, on_per, partial_equiv_from_equiv};
+ghost use Rattle.std.specs.Cmp.Lexicographic.{nat_list_eq_equiv};
 ghost use Rattle.text.specs.Short.{text_of, shortened};
 
-use crate::bytes::same;
 use crate::short::ShortText;
 
 /// An array with a text written over it from a place on.
@@ -12,14 +13,14 @@ fn overwritten<const N: usize>(old: [u8; N], at: usize, text: &[u8]) -> [u8; N]
     ensures { take (at + length text.now) result ≡ take at old.entry ++ text.now }
 {
     let mut bytes = old;
-    for k in 0..text.len() {
-        bytes[at + k] = text[k];
-    }
+    let whole = &mut bytes[..];
+    whole[at..at + text.len()].copy_from_slice(text);
     bytes
 }
 
 impl<const N: usize> ShortText<N> {
     /// The text, where it is short enough.
+    #[tactic(auto, using(crate::proofs::Scans::shortened_fits))]
     pub fn new(text: &[u8]) -> Option<Self>
         ensures { option_map text_of result ≡ shortened N text.now }
     {
@@ -50,11 +51,19 @@ impl<const N: usize> ShortText<N> {
         let whole = &self.bytes[..];
         &whole[0..self.len]
     }
+}
 
-    /// Whether this is the text given.
-    pub fn is(&self, text: &[u8]) -> bool
-        ensures { result ≡ bytes_eq (text_of self.now) text.now }
-    {
-        same(self.as_bytes(), text)
+// Kept: by hand, since a derive would also compare the bytes past the end of the text.
+impl<const N: usize> PartialEq for ShortText<N> {
+    ghost eq = { λ a b. bytes_eq (text_of a) (text_of b) };
+
+    ghost laws = { on_per (λ a. text_of a) (partial_equiv_from_equiv nat_list_eq_equiv) };
+
+    fn eq(&self, other: &Self) -> bool {
+        self.as_bytes() == other.as_bytes()
     }
+}
+
+impl<const N: usize> Eq for ShortText<N> {
+    ghost laws = { on_equiv (λ a. text_of a) nat_list_eq_equiv };
 }

@@ -3,13 +3,12 @@
 
 #![tactic(auto)]
 
-use anyhow::anyhow;
+use anyhow::Context;
 use calendar::Days;
-use desk::serve;
+use desk::serve_stdin;
 use element::FlowArea;
 use processor::Processor;
-use register::{Address, ArincRegister, CarrierCode, Register, User};
-use std::io::Read;
+use register::{Address, ArincRegister, CarrierCode, User};
 
 /// Adds a user with its return address and its carrier code.
 fn add_user(
@@ -18,18 +17,9 @@ fn add_user(
     address: &[u8],
     code: &[u8],
 ) -> anyhow::Result<()> {
-    let Some(user) = User::new(number) else {
-        return Err(anyhow!("no user"));
-    };
-    let Some(address) = Address::new(address) else {
-        return Err(anyhow!("no address"));
-    };
-    let Some(code) = CarrierCode::new(code) else {
-        return Err(anyhow!("no carrier code"));
-    };
-    if !register.add_sender(address, user) || !register.add_carrier(code, user) {
-        return Err(anyhow!("no row left"));
-    }
+    let user = User::try_from(number)?;
+    register.add_sender(Address::try_from(address)?, user)?;
+    register.add_carrier(CarrierCode::try_from(code)?, user)?;
     Ok(())
 }
 
@@ -40,31 +30,22 @@ fn two_users(rt: &HostRuntime) -> anyhow::Result<ArincRegister> {
     Ok(register)
 }
 
+// Kept: beside the element of gdpsub: two programs, and each says which element it serves.
 fn area() -> anyhow::Result<FlowArea> {
-    let Some(days) = Days::read(b"28", b"28") else {
-        return Err(anyhow!("no days"));
-    };
-    let Some(area) = FlowArea::new(b"FCA0Z1", days) else {
-        return Err(anyhow!("no area"));
-    };
-    Ok(area)
-}
-
-fn run(rt: &HostRuntime) -> anyhow::Result<()> {
-    let mut input = Vec::new(rt.alloc());
-    rt.stdin().read_to_end(&mut input)?;
-    let mut processor = Processor::new(rt.alloc(), two_users(rt)?, area()?)?;
-    serve(rt, &mut processor, input.as_slice())?;
-    Ok(())
+    let days = Days::read(b"28", b"28").context("no days")?;
+    FlowArea::new(b"FCA0Z1", days).context("no area")
 }
 
 fn main(rt: HostRuntime) -> anyhow::Result<()> {
-    run(&rt)
+    let mut processor = Processor::new(rt.alloc(), two_users(&rt)?, area()?)?;
+    serve_stdin(&rt, &mut processor)?;
+    Ok(())
 }
 
 #[cfg(test)]
 mod tests {
     use super::*;
+    use calendar::FlightTexts;
     use element::Airport;
     use processor::worked_edge;
     use register::{CdmnetRegister, Register};
@@ -75,12 +56,8 @@ mod tests {
     }
 
     fn airport_processor(rt: &HostRuntime) -> anyhow::Result<Processor<CdmnetRegister, Airport>> {
-        let Some(days) = Days::read(b"01", b"31") else {
-            return Err(anyhow!("no days"));
-        };
-        let Some(airport) = Airport::new(b"KMPT", days) else {
-            return Err(anyhow!("no airport"));
-        };
+        let days = Days::read(b"01", b"31").context("no days")?;
+        let airport = Airport::new(b"KMPT", days).context("no airport")?;
         Ok(Processor::new(rt.alloc(), CdmnetRegister::new(rt.alloc())?, airport)?)
     }
 
@@ -112,19 +89,32 @@ mod tests {
             (0, 0)
         );
         assert_eq!(rt;
-            processor.depart(b"QAA10", b"HIL", b"KMPT", b"06300100"),
+            processor.depart(FlightTexts {
+                id: b"QAA10",
+                departure: b"HIL",
+                arrival: b"KMPT",
+                date: b"06300100",
+            }),
             (0, 0)
         );
-        assert_eq!(rt; processor.depart(b"", b"", b"", b""), (705, 0));
+        assert_eq!(rt;
+            processor.depart(FlightTexts {
+                id: b"",
+                departure: b"",
+                arrival: b"",
+                date: b""
+            }),
+            (705, 0)
+        );
         Ok(())
     }
 
     #[test]
     fn two_users_are_known(rt: HostRuntime) -> Result<(), Fail> {
         let register = two_users(&rt)?;
-        let Some(user) = register.user_of_carrier(b"QBB") else {
-            return Err(Fail::new("nobody"));
-        };
+        let user = register
+            .user_of_carrier(b"QBB")
+            .ok_or_else(|| Fail::new("nobody"))?;
         assert_eq!(rt; user.number(), 15);
         assert!(rt; register.user_of_carrier(b"QCC").is_none());
         assert!(rt; register.user_of_carrier(b"").is_none());

@@ -1,3 +1,4 @@
 pub mod Overlays
 pub mod Each
 pub mod Figures
+pub mod Writes

@@ -2,8 +2,6 @@
 
 #![tactic(auto)]
 
-mod bytes;
-mod numbers;
+mod writer;
 
-pub use bytes::{put, put_byte};
-pub use numbers::put_number;
+pub use writer::Writer;

@@ -1,18 +1,29 @@
-use Rattle.std.proofs.Common.{vec_items, arith}
+use Rattle.std.proofs.Common.{sym, ap, ◌∙◌}
+use Rattle.std.specs.Option.{option_map}
 use Rattle.text.specs.Lines.{line_of, lines_left}
 use Rattle.calendar.specs.Days.{days_of}
-use Rattle.flights.specs.Kept.{flight_of, flights_of}
-use Rattle.flights.proofs.Scans.{length_mapped}
-use Rattle.lists.proofs.Filling.{going_turn}
+use Rattle.flights.specs.Kept.{flight_of}
+use Rattle.flights.proofs.Joining.{joins_place}
+use Rattle.lists.specs.FlightLines.{flight_read}
+use Rattle.lists.proofs.Filling.{valid_joins, going_turn}
 use Rattle.lists.proofs.reading.fill.Goals as goal
 
-pub overflow_add-result : goal.overflow_add-result
-overflow_add-result g c =
-    let t = c.add_line.new.table in
-    omega (arith, c.len.ensures, t.few, t.flights.ok.0, length_mapped flight_of (vec_items t.flights))
+pub add-requires : goal.add-requires
+add-requires g c =
+    let e = g.E.Element.means c.args.naming.now.element.now in
+    let d = days_of c.args.naming.now.days in
+    let f = flight_of c.in-Some-valid_flight.flight in
+    joins_place e c.loop-line.table f
+    (valid_joins e c.loop-line.table (flight_read e d (line_of c.in-Some.line)) f (sym c.valid_flight.ensures ∙ ap (option_map flight_of) c.in-Some-valid_flight.is))
 
 pub loop-line-preserved : goal.loop-line-preserved
 loop-line-preserved g c =
-    going_turn (g.E.Element.means c.args.element.now) (days_of c.args.days.now) (flights_of c.loop-line.table) (flights_of c.add_line.new.table)
-    (lines_left c.loop-line.rest) (lines_left c.next_line.new.self) (line_of c.in-Some.line) _ _
-    c.loop-line.invariant c.in-Some.ensures.gives c.if-not-add_line.ensures.told c.if-not-add_line.ensures.flights
+    let e = g.E.Element.means c.args.naming.now.element.now in
+    let d = days_of c.args.naming.now.days in
+    let f = flight_of c.in-Some-valid_flight.flight in (
+      tt,
+      tt,
+      going_turn e d c.loop-line.table c.add.new.self (lines_left c.loop-line.line-iterator) (lines_left c.next.new.self) (line_of c.in-Some.line) f _ _
+          c.loop-line.invariant.2 c.in-Some.ensures.steps
+          (sym c.valid_flight.ensures ∙ ap (option_map flight_of) c.in-Some-valid_flight.is) c.add.ensures,
+    )

@@ -1,4 +1,4 @@
-use Rattle.std.proofs.Common.{[], length}
+use Rattle.std.proofs.Common.{[]}
 use Rattle.text.specs.Lines.{lines_left}
 use Rattle.calendar.specs.Days.{days_of}
 use Rattle.flights.specs.Kept.{flights_of}
@@ -8,9 +8,8 @@ use Rattle.lists.proofs.reading.fill.Given as goal
 
 abbrev pub invariant-loop-line : goal.invariant-loop-line
 invariant-loop-line g l =
-    Going (g.E.Element.means l.element) (days_of l.days) (flights_of l.table) (lines_left l.rest)
-    (first_fault (g.E.Element.means l.element) (days_of l.days) 2 [] (lines_left l.start))
-    (listed (g.E.Element.means l.element) (days_of l.days) (lines_left l.start))
-
-abbrev pub decreases-loop-line : goal.decreases-loop-line
-decreases-loop-line g l = length (lines_left l.rest)
+    let e = g.E.Element.means l.naming.element.now in
+    let d = days_of l.naming.days in
+    (goal.iterator-loop-line g).can_next l.line-iterator
+    × (goal.iterator-loop-line g).is_finite l.line-iterator
+    × Going e d (flights_of l.table) (lines_left l.line-iterator) (first_fault e d 2 [] (lines_left l.fn.lines)) (listed e d (lines_left l.fn.lines))

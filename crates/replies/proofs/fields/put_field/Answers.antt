@@ -1,6 +1,5 @@
-use Rattle.std.proofs.Common.{rules}
-use Rattle.writing.proofs.Overlays.{◌then◌}
+use Rattle.writing.proofs.Writes.{◌then◌}
 use Rattle.replies.proofs.fields.put_field.Goals as goal
 
-pub returns : goal.returns
-returns c = record { wrote = c.put-end.ensures.wrote then c.put_byte.ensures.wrote; most = search rules }
+pub returns-clause-puts : goal.returns-clause-puts
+returns-clause-puts c = c.put.ensures.puts then c.put_byte.ensures.puts

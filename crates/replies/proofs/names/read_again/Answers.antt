@@ -9,11 +9,11 @@ use Rattle.replies.proofs.names.read_again.Goals as goal
 
 pub returns : goal.returns
 returns g c =
-    let means = g.E.Element.means c.args.element.now in
-    let names = means.slot_name (days_of c.args.days.now) in
-    let shown : c.as_bytes.result.now ≡ slot_shown means (days_of c.args.days.now) (flight_of c.args.flight.now) = cc in
+    let means = g.E.Element.means c.args.naming.now.element.now in
+    let names = means.slot_name (days_of c.args.naming.now.days) in
+    let shown : c.as_bytes.result.now ≡ slot_shown means (days_of c.args.naming.now.days) (flight_of c.args.flight.now) = cc in
     let reads : name_read names c.as_bytes.result.now ≡ pair_shown (flight_of c.args.flight.now) =
     rw shown
-    (shown_reads means (days_of c.args.days.now) (pair_shown (flight_of c.args.flight.now)) (g.met.E.Element.formed c.args.element.now)
-    (g.met.E.Element.apart c.args.element.now) (kept_days c.args.days.now) (kept_pair c.args.flight.now)) in
+    (shown_reads means (days_of c.args.naming.now.days) (pair_shown (flight_of c.args.flight.now)) (g.met.E.Element.formed c.args.naming.now.element.now)
+    (g.met.E.Element.apart c.args.naming.now.element.now) (kept_days c.args.naming.now.days) (kept_pair c.args.flight.now)) in
     record { pair = cc; law = names_read_again }

@@ -1,9 +1,5 @@
-use Rattle.std.proofs.Common.{rules}
-use Rattle.writing.proofs.Overlays.{◌then◌}
+use Rattle.writing.proofs.Writes.{◌then◌}
 use Rattle.replies.proofs.rejections.put_fault.Goals as goal
 
-pub returns : goal.returns
-returns c = record {
-  wrote = c.put-end.ensures.wrote then c.put-end-2.ensures.wrote then c.put_number-end.ensures.wrote then c.put.ensures.wrote;
-  most = search rules;
-}
+pub returns-clause-puts : goal.returns-clause-puts
+returns-clause-puts c = c.put.ensures.puts then c.put-2.ensures.puts then (rw c.number.ensures.number at c.put_number.ensures.puts) then c.put-3.ensures.puts

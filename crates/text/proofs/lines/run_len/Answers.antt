@@ -1,13 +1,7 @@
-use Rattle.std.proofs.Common.{arith}
-use Rattle.std.proofs.lemmas.Bool.Decides.{nat_tests}
-use Rattle.std.proofs.lemmas.List.Sums.{prefix_len-drop_yes, prefix_len-drop_no, prefix_len-drop_all}
+use Rattle.std.proofs.Common.{length, ap, ◌∙◌}
+use Rattle.std.specs.Option.{unwrap_or}
+use Rattle.text.proofs.Cuts.{first_or_len}
 use Rattle.text.proofs.lines.run_len.Goals as goal
 
-pub returns-then-x-b : goal.returns-then-x-b
-returns-then-x-b c = grind (arith, nat_tests, prefix_len-drop_no)
-
-pub loop-i-preserved : goal.loop-i-preserved
-loop-i-preserved c = grind (arith, nat_tests, prefix_len-drop_yes)
-
 pub returns : goal.returns
-returns c = grind (arith, prefix_len-drop_all)
+returns c = c.unwrap_or.ensures ∙ ap (λ o. unwrap_or o (length c.args.s.now)) c.first.ensures ∙ first_or_len c.args.b c.args.s.now

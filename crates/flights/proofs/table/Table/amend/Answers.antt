@@ -1,28 +1,30 @@
-use Rattle.std.proofs.Common.{◌≡◌, ◌<◌, length, vec_items, ap, ◌∙◌, arith}
-use Rattle.std.proofs.lemmas.List.{map-set}
-use Rattle.flights.specs.Kept.{flight_of, flights_of}
-use Rattle.flights.proofs.Scans.{changed_more, changed_all, length_mapped, get_d_map}
+use Rattle.std.proofs.Common.{◌≤◌, map, get_or, set, length, sym, refl, ap, ◌∙◌, arith, take_all, append-nil}
+use Rattle.std.proofs.lemmas.Fn.{says_at}
+use Rattle.std.proofs.lemmas.List.{map-set, length-map, get_or-map, drop_all, with_items_is}
+use Rattle.std.proofs.lemmas.List.Edits.{map_over_more}
+use Rattle.flights.specs.Kept.{flight_of}
 use Rattle.flights.proofs.table.Table.amend.Goals as goal
 
-pub loop-i-preserved : goal.loop-i-preserved
-loop-i-preserved g c =
-    let h' = g.A.Amends.amends c.args.change.now in
-    let old = c.args.self.now in
-    let items = vec_items c.loop-i.self.flights in
-    let i = c.loop-i.i in
-    let x = c.index.result.now in
-    let h : i < length (flights_of old) =
-    omega (arith, length_mapped flight_of (vec_items old.flights), old.flights.ok.0, c.len-i-end.ensures, c.loop-i-test.true) in
-    let v = c.amended.ensures ∙ ap h' (get_d_map flight_of items i x c.index.ensures) in (
-      map-set flight_of items i c.amended.result
-          ∙ changed_more h' (flights_of old) (flights_of c.loop-i.self) i (flight_of x) (flight_of c.amended.result) c.loop-i.invariant.0 h v,
-      c.loop-i.invariant.1,
-    )
+pub loop-flight-init : goal.loop-flight-init
+loop-flight-init g c h k = refl
+
+pub loop-flight-preserved : goal.loop-flight-preserved
+loop-flight-preserved g c h k =
+    let before = map flight_of c.deref_mut-flight-items.result.now in
+    let now = c.loop-flight.flight-items in
+    let i = c.loop-flight.flight-index in
+    let x = get_or now i c.flight-item.result in
+    map-set flight_of now i c.change.result
+    ∙ ap (set (map flight_of now) i) (k x c.change.result (says_at g.F.Fn c.change.ensures refl))
+    ∙ map_over_more h before (map flight_of now) i (flight_of x) (omega (arith, length-map c.deref_mut-flight-items.result.now flight_of)) (c.loop-flight.invariant h k)
+    (sym (get_or-map flight_of now i c.flight-item.result (flight_of x) (omega arith)))
 
 pub returns : goal.returns
-returns g c =
-    let h' = g.A.Amends.amends c.args.change.now in
-    let old = c.args.self.now in
-    let e : c.loop-i.i ≡ length (flights_of old) =
-    omega (arith, length_mapped flight_of (vec_items old.flights), old.flights.ok.0, c.len-i-end.ensures, c.loop-i-test.false, c.loop-i.auto.i-end) in
-    c.loop-i.invariant.0 ∙ changed_all h' (flights_of old) c.loop-i.i e
+returns g c h k =
+    let items = c.deref_mut-flight-items.result.now in
+    let i = c.loop-flight.flight-index in
+    let past : length (map flight_of items) ≤ i = omega (arith, length-map items flight_of) in
+    ap (map flight_of) (with_items_is c.self.inside.flights c.loop-flight.flight-items (omega (arith, c.self.inside.flights.ok.0, ap length c.deref_mut-flight-items.ensures.value)))
+    ∙ (c.loop-flight.invariant h k
+    ∙ (rw (take_all i (map flight_of items) past, drop_all i (map flight_of items) past) (append-nil (map h (map flight_of items)))
+    ∙ (ap (λ fs. map h (map flight_of fs)) c.deref_mut-flight-items.ensures.value ∙ ap (map h) c.self.view_is)))

@@ -1,7 +1,10 @@
-use Rattle.std.proofs.Common.{◌≡◌, vec_len}
-use Rattle.flights.specs.Kept.{flights_of}
-use Rattle.flights.proofs.Scans.{changed}
+use Rattle.std.proofs.Common.{◌≡◌, ◌++◌, map, take, drop}
+use Rattle.std.specs.Fn.{FnReturnsAt}
+use Rattle.flights.specs.Flights.{Flight}
+use Rattle.flights.specs.Kept.{Changes, flight_of}
 use Rattle.flights.proofs.table.Table.amend.Given as goal
 
-abbrev pub invariant-loop-i : goal.invariant-loop-i
-invariant-loop-i g l = (flights_of l.self ≡ changed (g.A.Amends.amends l.change) l.i (flights_of l.initial.self)) × (vec_len l.self.flights ≡ vec_len l.initial.self.flights)
+abbrev pub invariant-loop-flight : goal.invariant-loop-flight
+invariant-loop-flight g l =
+    let old = map flight_of l.initial.flight-items in
+    (h : Flight → Flight) → Changes (FnReturnsAt g.F.Fn l.change) h → map flight_of l.flight-items ≡ map h (take l.flight-index old) ++ drop l.flight-index old

@@ -1,15 +1,15 @@
-use Rattle.std.proofs.Common.{◌≡◌, ◌++◌, map, length}
+use Rattle.std.proofs.Common.{◌≡◌, ◌++◌, map}
 use Rattle.std.specs.List.{AllByRecursion}
 use Rattle.text.specs.Lines.{lines_left}
 use Rattle.calendar.specs.Days.{days_of}
 use Rattle.plan.specs.Rows.{rows_of, numbers_of, row_read}
 use Rattle.plan.proofs.row.Plan.read.Given as goal
 
+-- the rows so far and those of the lines to come are the rows of all lines
 abbrev pub invariant-loop-line : goal.invariant-loop-line
 invariant-loop-line g l =
-    (rows_of l.plan ++ map (row_read (g.E.Element.means l.element) (days_of l.days)) (lines_left l.rest)
-    ≡ map (row_read (g.E.Element.means l.element) (days_of l.days)) (lines_left l.start))
-    × AllByRecursion (λ n. n ≡ 0) (numbers_of l.plan)
-
-abbrev pub decreases-loop-line : goal.decreases-loop-line
-decreases-loop-line g l = length (lines_left l.rest)
+    let read = row_read (g.E.Element.means l.naming.element.now) (days_of l.naming.days) in
+    record {
+      rows : rows_of l.plan ++ map read (lines_left l.line-iterator) ≡ map read (lines_left l.lines);
+      numbers : AllByRecursion (λ n. n ≡ 0) (numbers_of l.plan);
+    }

@@ -1,9 +1,10 @@
-use Rattle.std.proofs.Common.{length, vec_items, ap, arith}
-use Rattle.flights.specs.Kept.{flight_of}
-use Rattle.flights.proofs.Scans.{length_mapped}
+use Rattle.std.proofs.Common.{rules}
+use Rattle.register.specs.Users.{number_of}
+use Rattle.processor.specs.Held.{setting}
+use Rattle.processor.specs.Report.{reports}
 use Rattle.processor.proofs.state.Processor.list_for.Goals as goal
 
-pub put_report-requires : goal.put_report-requires
-put_report-requires g c =
-    let t = c.args.self.now.table in
-    (omega (arith, ap length c.flights.ensures, length_mapped flight_of c.flights.result.now, length_mapped flight_of (vec_items t.flights), t.few, t.flights.ok.0), c.requires)
+pub returns : goal.returns
+returns g c =
+    let listed = reports (setting c.args.self.now) (number_of c.args.user) in
+    record { wrote = rw (c.days.ensures, c.flights-flights.ensures.value) at (c.put_report.ensures.wrote listed (λ f f' k. search rules)) }

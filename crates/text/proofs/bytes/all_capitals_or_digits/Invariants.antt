@@ -1,6 +1,0 @@
-use Rattle.std.proofs.Common.{◌≡◌, drop}
-use Rattle.text.specs.Bytes.{each, is_capital_or_digit}
-use Rattle.text.proofs.bytes.all_capitals_or_digits.Given as goal
-
-abbrev pub invariant-loop-b : goal.invariant-loop-b
-invariant-loop-b l = each is_capital_or_digit l.text ≡ each is_capital_or_digit (drop l.b-index l.text)
