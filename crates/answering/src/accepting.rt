@@ -23,7 +23,7 @@ pub fn put_acceptance<E: Element>(
     requires short { length id.now ≤ 16 }
     requires few { length flights.now ≤ 512 }
     requires room { 40960 ≤ length out.old }
-    ensures wrote { Wrote out.old 0 (accepted_list (E.Element.means naming.now.element.now) (days_of naming.now.days) id.now (messages_of (messages_in (rows_of plan.now))) (map flight_of flights.now)) out.new result }
+    ensures wrote { Wrote out.old 0 (accepted_list (E.means naming.now.element.now) (days_of naming.now.days) id.now (messages_of (messages_in (rows_of plan.now))) (map flight_of flights.now)) out.new result }
 {
     let mut reply = Writer::new(out);
     put_accepted(&mut reply, id);

@@ -3,6 +3,7 @@
 #![tactic(auto)]
 
 // Kept: a buffer in and a length out, since that length is the second number of the pair that a call of Processor answers.
+// Kept: the room of 40,960 bytes as a clause: a type of its own round the lent buffer would have to say in each clause that it is the caller's.
 
 mod accepting;
 mod rejecting;

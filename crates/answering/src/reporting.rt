@@ -42,7 +42,7 @@ pub fn put_report<E: Element, C: Fn(&Flight) -> bool>(
     requires few { length flights.now ≤ 512 }
     requires room { 40960 ≤ length out.old }
     requires callable { C.IsAlwaysCallable choice }
-    ensures wrote { (t : FlightMeant → Bool) → Chooses (FnReturnsAt C.Fn choice) t → Wrote out.old 0 (reported_list (E.Element.means naming.now.element.now) (days_of naming.now.days) t (map flight_of flights.now)) out.new result }
+    ensures wrote { (t : FlightMeant → Bool) → Chooses (FnReturnsAt C.Fn choice) t → Wrote out.old 0 (reported_list (E.means naming.now.element.now) (days_of naming.now.days) t (map flight_of flights.now)) out.new result }
 {
     let mut reply = Writer::new(out);
     put_list_opening(&mut reply, naming.element);
@@ -52,7 +52,7 @@ pub fn put_report<E: Element, C: Fn(&Flight) -> bool>(
 
 /// Whether a flight is one of the user's controlled flights.
 pub fn is_reported<R: Register>(register: &R, user: User, flight: &Flight) -> bool
-    ensures { result ≡ (is_user (R.Register.carrier register.now (carrier_of (flight_of flight.now).identity)) (number_of user) && is_some (flight_of flight.now).control) }
+    ensures { result ≡ (is_user (R.carrier register.now (carrier_of (flight_of flight.now).identity)) (number_of user) && is_some (flight_of flight.now).control) }
 {
     owns(register, user, flight) && flight.control.is_some()
 }

@@ -28,6 +28,7 @@ fn is_point(line: &[u8]) -> bool
 }
 
 /// The lines of some bytes, each with its LF; the last may lack it.
+// Kept: a cursor of our own: of the library's split_inclusive what is left can't be read, and split wants it.
 #[derive(Clone, Copy)]
 struct EndedLines<'a> {
     rest: &'a [u8],

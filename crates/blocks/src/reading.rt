@@ -34,6 +34,7 @@ pub(crate) fn read<'a>(body: &'a [u8]) -> Option<Block<'a>>
 }
 
 /// What a body of one line says: `word` is its first field, and `fields` are the others.
+// Kept: a ladder of ==: with a match on the byte strings the proof of what it answers did not close.
 fn read_line<'a>(word: &[u8], fields: Fields<'a>) -> Option<Block<'a>>
     ensures { told_of result ≡ one_line word.now (fields_left fields.entry) }
 {
@@ -70,6 +71,7 @@ fn read_purge<'a>(mut fields: Fields<'a>) -> Option<Block<'a>>
 fn read_depart<'a>(mut fields: Fields<'a>) -> Option<Block<'a>>
     ensures { told_of result ≡ departing (fields_left fields.entry) }
 {
+    // Kept: four lines as messages has them: a clause on what reading them leaves of the fields would be longer.
     let flight = FlightTexts {
         id: fields.next()?,
         departure: fields.next()?,

@@ -1,5 +1,8 @@
 ghost use Rattle.std.specs.Prelude.{◌<◌, ◌≤◌};
 
+// Kept: ghost fields and no Model. Under one a value in hand shows no bounds, so that the name of a pair is read back as that
+// pair (kept_days and kept_pair of element) stayed open: each call that lends days or a minute would have to say them again.
+
 /// The days that a program lies on: the base day and the six after it. After the last day of the
 /// base day's month, whose length is `month`, comes day 1.
 #[derive(Clone, Copy)]

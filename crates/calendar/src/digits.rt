@@ -2,6 +2,7 @@ ghost use Rattle.std.specs.Prelude.{◌≡◌, ◌<◌, IfSome};
 ghost use Rattle.calendar.specs.Digits.{digit, two_digits, two_digits_of, number};
 
 /// The value of a digit.
+// Kept: the library's to_digit is of a char and gives a u32, so it would be converted twice.
 fn digit_of(b: u8) -> Option<u8>
     ensures { result ≡ digit b }
 {

@@ -1,13 +1,13 @@
-ghost use Rattle.std.specs.Prelude.{◌≡◌, if◌then◌else◌};
+ghost use Rattle.std.specs.Prelude.{◌≡◌, map, if◌then◌else◌};
 ghost use Rattle.std.specs.Option.{option_map};
 ghost use Rattle.element.specs.Kept.{slot_of};
 ghost use Rattle.register.specs.Users.{number_of as user_number};
 ghost use Rattle.flights.specs.Kept.{flight_of, flights_of};
-ghost use Rattle.model.specs.Model.{setting_of, at_work};
 ghost use Rattle.model.specs.Refusals.{number, number_of};
 ghost use Rattle.packets.specs.StageOne.{fault_alone};
 ghost use Rattle.packets.specs.StageTwo.{holder};
 ghost use Rattle.substitutions.specs.Kept.{kept_message};
+ghost use Rattle.checks.specs.Held.{setting, program};
 
 use crate::alone::{
     controlled, ete_unfit, incomplete, no_slot_name, off_minute, off_slot, on_pop_up, uncontrolled,
@@ -41,7 +41,7 @@ fn refuse(fault: bool, refusal: Refusal) -> Result<(), Refusal>
 impl<'a, R: Register, E: Element> Checker<'a, R, E> {
     /// The first fault of a line in stage one.
     pub fn fault_alone(&self, message: &Option<Message>) -> Result<(), Refusal>
-        ensures { number_of result ≡ fault_alone (setting_of (R.owner self.now.register.now) (R.carrier self.now.register.now) (E.means self.now.element.now)) (at_work (E.span self.now.element.now) (flights_of self.now.table.now)) (user_number self.now.user) (option_map kept_message message.now) }
+        ensures { number_of result ≡ fault_alone (setting R.Register E.Element self.now) (program R.Register E.Element self.now) (user_number self.now.user) (option_map kept_message message.now) }
     {
         let message = message.as_ref().ok_or(Refusal::NoMessage)?;
         refuse(untimely(message), Refusal::Untimely)?;
@@ -62,11 +62,11 @@ impl<'a, R: Register, E: Element> Checker<'a, R, E> {
         refuse(held, Refusal::SlotHeld)
     }
 
-    /// The flight of the user that holds a slot.
+    /// The one of some flights that is the user's and holds a slot.
     #[tactic(auto, using(crate::proofs::Found::held_by))]
-    pub fn user_holder(&self, slot: &Slot) -> Option<Flight>
-        ensures { option_map flight_of result ≡ holder (setting_of (R.owner self.now.register.now) (R.carrier self.now.register.now) (E.means self.now.element.now)) (user_number self.now.user) (slot_of slot.now) (flights_of self.now.table.now) }
+    pub fn user_holder(&self, slot: &Slot, flights: &[Flight]) -> Option<Flight>
+        ensures { option_map flight_of result ≡ holder (setting R.Register E.Element self.now) (user_number self.now.user) (slot_of slot.now) (map flight_of flights.now) }
     {
-        find_holder(self.table.flights(), self.register, self.user, slot).copied()
+        find_holder(flights, self.register, self.user, slot).copied()
     }
 }

@@ -2,17 +2,16 @@
 
 #![tactic(auto)]
 
-ghost use Rattle.std.specs.Prelude.{◌≡◌, ℕ, List, length, IfOk, OnOk};
+ghost use Rattle.std.specs.Prelude.{◌≡◌, length, IfOk, OnOk};
 ghost use Rattle.blocks.specs.Told.{told_of};
 ghost use Rattle.blocks.specs.Blocks.{blocks};
-ghost use Rattle.processor.specs.Held.{setting, program};
+ghost use Rattle.processor.specs.Held.{Keeps, setting, program};
 ghost use Rattle.desk.specs.Told.{call_told, Answers, after_all};
 
 use blocks::{Block, Blocks};
 use element::Element;
 use processor::Processor;
 use register::Register;
-use std::io::Read;
 
 /// Makes the call of a block: the pair that it answers, and none where the block is not understood.
 fn answer<R: Register + Drop, E: Element + Drop>(
@@ -20,8 +19,7 @@ fn answer<R: Register + Drop, E: Element + Drop>(
     block: Option<Block>,
 ) -> Option<(u32, usize)>
     ensures answers { Answers (setting processor.old) (program processor.old) (call_told (told_of block.entry)) (program processor.new) result }
-    ensures register { processor.new.register ≡ processor.old.register }
-    ensures element { E.Element.means processor.new.element ≡ E.Element.means processor.old.element }
+    ensures keeps { Keeps processor.old processor.new }
 {
     // Kept: a match, since each block has other parts and its answer is the pair of its call; a closure for
     // each case would have to be made somewhere and handed on.
@@ -50,26 +48,11 @@ pub fn serve<R: Register + Drop, E: Element + Drop>(
 ) -> anyhow::Result<usize>
     ensures count { IfOk result (λ n. n ≡ length (blocks input.now)) }
     ensures program { OnOk result ((program processor.new) ≡ after_all (setting processor.old) (program processor.old) (blocks input.now)) }
-    ensures register { processor.new.register ≡ processor.old.register }
-    ensures element { E.Element.means processor.new.element ≡ E.Element.means processor.old.element }
+    ensures keeps { Keeps processor.old processor.new }
 {
     for block in Blocks::new(input) {
         let pair = answer(processor, block);
         print_answer(rt, pair)?;
     }
     Ok(Blocks::new(input).count())
-}
-
-/// Puts each block of standard input to the processor, prints its answer, and says how many there were.
-pub fn serve_stdin<R: Register + Drop, E: Element + Drop>(
-    rt: &HostRuntime,
-    processor: &mut Processor<R, E>,
-) -> anyhow::Result<usize>
-    ensures served { IfOk result (λ n. (input : List ℕ) × (n ≡ length (blocks input)) × (program processor.new ≡ after_all (setting processor.old) (program processor.old) (blocks input))) }
-    ensures register { processor.new.register ≡ processor.old.register }
-    ensures element { E.Element.means processor.new.element ≡ E.Element.means processor.old.element }
-{
-    let mut input = Vec::new(rt.alloc());
-    rt.stdin().read_to_end(&mut input)?;
-    serve(rt, processor, input.as_slice())
 }

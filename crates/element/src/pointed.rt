@@ -43,7 +43,7 @@ pub struct Named<K: Kind> {
     ghost form: { K.is_name (text_of name) ≡ true },
 }
 
-// Kept: by hand, since a struct with a ghost field has no derive of Clone where a parameter need not be Clone.
+// Kept: by hand; tried as derive_where(Clone, Copy), which is refused over a ghost field.
 impl<K: Kind> Clone for Named<K> {
     ghost is_clone = { λ x y. y ≡ x };
 

@@ -44,6 +44,7 @@ impl ControlType {
     }
 
     /// The type whose word a text is.
+    // Kept: bytes and no Display, since a reply is bytes; and an Option, since none is all that there is to say.
     pub fn read(text: &[u8]) -> Option<ControlType>
         ensures { result ≡ type_read text.now }
     {

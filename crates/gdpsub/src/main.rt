@@ -8,10 +8,11 @@ ghost use Rattle.register.specs.Registers.{senders_of, carriers_of};
 
 use anyhow::Context;
 use calendar::Days;
-use desk::serve_stdin;
+use desk::serve;
 use element::Airport;
 use processor::Processor;
 use register::{CarrierCode, CdmnetRegister, Client, User};
+use std::io::Read;
 
 /// IP 1 tag 11 is user 1, and so are the carriers QAA and QAB.
 fn sample_register(rt: &HostRuntime) -> anyhow::Result<CdmnetRegister>
@@ -36,8 +37,10 @@ fn sample_element() -> anyhow::Result<Airport> {
 }
 
 fn main(rt: HostRuntime) -> anyhow::Result<()> {
+    let mut input = Vec::new(rt.alloc());
+    rt.stdin().read_to_end(&mut input)?;
     let mut processor = Processor::new(rt.alloc(), sample_register(&rt)?, sample_element()?)?;
-    let answered = serve_stdin(&rt, &mut processor)?;
+    let answered = serve(&rt, &mut processor, input.as_slice())?;
     let (condition, flights) = processor.standing();
     eprintln!(rt; "{answered} blocks answered; condition {condition}, {flights} flights")?;
     Ok(())

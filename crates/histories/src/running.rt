@@ -1,5 +1,4 @@
-ghost use Rattle.std.specs.Prelude.{◌≡◌};
-ghost use Rattle.processor.specs.Held.{setting, program};
+ghost use Rattle.processor.specs.Held.{Keeps, setting, program};
 ghost use Rattle.histories.specs.Running.{Makes, Taken, Ran, Lawful};
 
 use crate::turn::{Call, Turn};
@@ -16,8 +15,7 @@ fn make<R: Register + Drop, E: Element + Drop>(
 where
     R::Sender: Drop,
     ensures does { Makes (setting processor.old) (program processor.old) (program processor.new) call.now result buffer.old buffer.new }
-    ensures register { processor.new.register ≡ processor.old.register }
-    ensures element { E.Element.means processor.new.element ≡ E.Element.means processor.old.element }
+    ensures keeps { Keeps processor.old processor.new }
 {
     // Kept: a match, since each call has other parts and answers its pair; a closure for each case would have
     // to be made somewhere and handed on.
@@ -39,8 +37,7 @@ fn take<'a, R: Register + Drop, E: Element + Drop>(
 where
     R::Sender: Drop,
     ensures takes { Taken (setting processor.old) (program processor.old) (program processor.new) turn.old turn.new }
-    ensures register { processor.new.register ≡ processor.old.register }
-    ensures element { E.Element.means processor.new.element ≡ E.Element.means processor.old.element }
+    ensures keeps { Keeps processor.old processor.new }
 {
     turn.pair = make(processor, &turn.call, turn.buffer.as_mut_slice());
 }
@@ -54,8 +51,7 @@ where
     R::Sender: Drop,
     ensures ran { Ran (setting processor.old) (program processor.old) (program processor.new) turns.old turns.new }
     ensures lawful { Lawful (setting processor.old) (program processor.old) (program processor.new) turns.old turns.new }
-    ensures register { processor.new.register ≡ processor.old.register }
-    ensures element { E.Element.means processor.new.element ≡ E.Element.means processor.old.element }
+    ensures keeps { Keeps processor.old processor.new }
 {
     for turn in turns.iter_mut() {
         take(processor, turn);

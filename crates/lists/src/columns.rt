@@ -78,7 +78,7 @@ fn read_given<T, F: Fn(&[u8]) -> Option<T>>(text: &[u8], read: F) -> Option<Opti
 }
 
 /// A slot name of the element, or none.
-// Kept: beside `read_erta`, each the name of one call of `read_given`.
+// Kept: beside `read_erta` and `read_control`, each the name of one call of `read_given`.
 pub fn read_slot<E: Element>(naming: &Naming<E>, text: &[u8]) -> Option<Option<Slot>>
     ensures { option_map (option_map slot_of) result ≡ slot_read (E.Element.means naming.now.element.now) (days_of naming.now.days) text.now }
 {

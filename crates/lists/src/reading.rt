@@ -52,6 +52,7 @@ fn fill<E: Element>(table: &mut Table, naming: &Naming<E>, lines: Lines) -> Resu
 
 /// Reads an issue list into the table: its days, or the number of its first faulty line, the
 /// heading being line 1, with the table empty then.
+// Kept: a number for an error, as in `fill`.
 pub fn read_list<E: Element>(table: &mut Table, element: &E, input: &[u8]) -> Result<Days, usize>
     ensures { Gave (list_read (E.Element.means element.now) (lines input.now)) result (flights_of table.new) }
 {

@@ -1,1 +1,2 @@
 mod TagSteps
+pub mod Identifiers

@@ -26,6 +26,7 @@ fn is_identifier(text: &[u8]) -> bool
 
 impl Identifier {
     /// The identifier that a text is.
+    // Kept: an Option and no TryFrom: none is all that there is to say of an error.
     fn read(text: &[u8]) -> Option<Identifier>
         ensures { option_map identifier_of result ≡ text_where (is_identifier text.now) text.now }
     {

@@ -41,6 +41,7 @@ fn read_fields<'a>(mut fields: Fields<'a>) -> Option<Written<'a>>
     ensures { option_map written_of result ≡ written_from (fields_left fields.entry) }
 {
     let word = fields.next()?;
+    // Kept: four lines as blocks has them: a clause on what reading them leaves of the fields would be longer.
     let flight = FlightTexts {
         id: fields.next()?,
         departure: fields.next()?,

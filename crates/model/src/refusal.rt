@@ -64,6 +64,7 @@ pub enum Refusal {
 
 impl Refusal {
     /// Its number in the closed table.
+    // Kept: the numbers as one match, row by row as the definition has them.
     pub fn number(self) -> u32
         ensures number { result ≡ number self }
         ensures some { 0 < result }

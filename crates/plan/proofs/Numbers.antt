@@ -6,41 +6,10 @@ use Rattle.std.specs.Option.{is_some, option_and_then}
 use Rattle.std.specs.Result.{result_err}
 use Rattle.packets.specs.Verdict.{all_pass, first_number}
 use Rattle.model.specs.declared.refusal.Refusal.{Refusal}
-use Rattle.model.specs.declared.refusal.Refusal.TheVariants.{SmallBuffer, LongInput, NoHeader, LineCount, UnknownSender, NoProgram, ProgramOff, NoRequest, NoMessage, Untimely, Incomplete, NoSlotName, NoFlight, NotOwned, Uncontrolled, Controlled, Departed, OnPopUp, OffSlot, OffMinute, EteUnfit, SlotHeld, Repeated, Unheld, Claimed, Stranded, FaultyList, ProgramThere}
 use Rattle.model.specs.Refusals.{number, number_or_zero, number_of as fault_number}
+use Rattle.model.proofs.Refused.{refused}
 use Rattle.plan.specs.declared.row.Row.{Row as KeptRow}
 use Rattle.plan.specs.Rows.{number_of}
-
--- no refusal has the number 0
-refused : (r : Refusal) → eqb (number r) 0 ≡ false
-refused SmallBuffer = refl
-refused LongInput = refl
-refused NoHeader = refl
-refused LineCount = refl
-refused UnknownSender = refl
-refused NoProgram = refl
-refused ProgramOff = refl
-refused NoRequest = refl
-refused NoMessage = refl
-refused Untimely = refl
-refused Incomplete = refl
-refused NoSlotName = refl
-refused NoFlight = refl
-refused NotOwned = refl
-refused Uncontrolled = refl
-refused Controlled = refl
-refused Departed = refl
-refused OnPopUp = refl
-refused OffSlot = refl
-refused OffMinute = refl
-refused EteUnfit = refl
-refused SlotHeld = refl
-refused Repeated = refl
-refused Unheld = refl
-refused Claimed = refl
-refused Stranded = refl
-refused FaultyList = refl
-refused ProgramThere = refl
 
 first_here : (n : ℕ) (ns : List ℕ) → eqb n 0 ≡ false → first_number (n ∷ ns) ≡ n
 first_here zero ns h = let no : true ≡ false = h in absurd (let z : ◌≡◌ {A = ℕ} 0 1 = cc in omega arith)

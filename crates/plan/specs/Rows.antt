@@ -1,5 +1,5 @@
 -- The rows of a plan.
-use Rattle.std.specs.Prelude.{◌≡◌, ℕ, zero, suc, cond, List, [], ◌∷◌, ◌++◌, map, take, Some, None, Option, Result}
+use Rattle.std.specs.Prelude.{◌≡◌, ℕ, Bool, zero, suc, cond, List, [], ◌∷◌, ◌++◌, map, take, Some, None, Option, Result}
 use Rattle.std.specs.Option.{option_map}
 use Rattle.text.specs.Lines.{Line}
 use Rattle.text.specs.Short.{text_of}
@@ -17,6 +17,7 @@ use Rattle.packets.specs.StageOne.{first_of}
 use Rattle.packets.specs.StageTwo.{stage_two}
 use Rattle.packets.specs.Verdict.{messages_of}
 use Rattle.substitutions.specs.Kept.{kept_message}
+use Rattle.substitutions.specs.declared.message.Message.{Message as KeptMessage}
 
 -- a line with the message that it is
 pub record Row : Type 0 where
@@ -42,6 +43,10 @@ message_in r = r.message
 
 abbrev pub messages_in : List Row → List (Option Message)
 messages_in rs = map message_in rs
+
+-- a test of the code's messages that answers what `t` answers of them
+abbrev pub Tests : (KeptMessage → Bool → Type 0) → (Message → Bool) → Type 0
+Tests tests t = (m : KeptMessage) (b : Bool) → tests m b → b ≡ t (kept_message m)
 
 -- the number of a line in stage two, beside all lines and those before it
 abbrev pub fault_beside : {S : Type 0} → Setting S → Program → ℕ → List (Option Message) → List (Option Message) → Option Message → ℕ

@@ -24,7 +24,7 @@ fn cancel(message: &Message) -> Option<bool>
 }
 
 /// What the packet asks of a flight: a seat, a cancellation, an ERTA.
-#[derive(Clone, Copy)]
+#[derive(Clone, Copy, Default)]
 struct Change {
     seat: Option<Seat>,
     cancel: Option<bool>,
@@ -83,11 +83,7 @@ fn asked(rows: &[Row], identity: &Identity) -> Change
     ensures cancel { result.cancel ≡ first_for (identity_of identity.now) cancel_of (messages_of (messages_in (map row_of rows.now))) }
     ensures erta { option_map minute_of result.erta ≡ first_for (identity_of identity.now) erta_of (messages_of (messages_in (map row_of rows.now))) }
 {
-    let mut change = Change {
-        seat: None,
-        cancel: None,
-        erta: None,
-    };
+    let mut change = Change::default();
     for row in rows {
         change = change.or(identity, row);
     }

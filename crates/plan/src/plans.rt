@@ -2,11 +2,10 @@ ghost use Rattle.std.specs.Prelude.{◌≡◌, ◌+◌, ◌<◌, ◌≤◌, true
 ghost use Rattle.std.specs.List.{AllByRecursion};
 ghost use Rattle.text.specs.Lines.{lines_left};
 ghost use Rattle.calendar.specs.Days.{days_of};
-ghost use Rattle.flights.specs.Kept.{flights_of};
 ghost use Rattle.register.specs.Users.{number_of as user_number};
 ghost use Rattle.packets.specs.Verdict.{line_numbers, first_number};
-ghost use Rattle.model.specs.Model.{setting_of, at_work};
 ghost use Rattle.model.specs.Refusals.{number_or_zero};
+ghost use Rattle.checks.specs.Held.{setting, program};
 ghost use Rattle.plan.specs.Rows.{row_of, rows_of, numbers_of, number_of, row_read, messages_in, Finds, each_beside};
 ghost use Rattle.messages.specs.Headers.{has_places};
 
@@ -59,6 +58,7 @@ impl Plan {
     }
 
     /// One row more, where there is room.
+    // Kept: an Option of nothing, which `read` passes on by `?` as its own None.
     fn push(&mut self, row: Row) -> Option<()>
         ensures full { IfNone result (self.old.count ≡ 64) }
         ensures rows { OnSome result (rows_of self.new ≡ rows_of self.old ++ row_of row ∷ []) }
@@ -132,7 +132,7 @@ impl Plan {
     /// Checks the rows in two stages: the second only if all pass in the first.
     pub fn judge<R: Register, E: Element>(&mut self, checker: &Checker<R, E>)
         ensures rows { rows_of self.new ≡ rows_of self.old }
-        ensures numbers { numbers_of self.new ≡ line_numbers (setting_of (R.owner checker.now.register.now) (R.carrier checker.now.register.now) (E.means checker.now.element.now)) (at_work (E.span checker.now.element.now) (flights_of checker.now.table.now)) (user_number checker.now.user) (messages_in (rows_of self.old)) }
+        ensures numbers { numbers_of self.new ≡ line_numbers (setting R.Register E.Element checker.now) (program R.Register E.Element checker.now) (user_number checker.now.user) (messages_in (rows_of self.old)) }
     {
         self.mark(|among| checker.fault_alone(&among.row.message));
         if self.first_fault().is_none() {

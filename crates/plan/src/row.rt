@@ -18,7 +18,7 @@ pub struct Row {
 /// The plan of a packet: a row for each of its message lines, at most 64.
 // Kept: an array and a count, since the plan is a struct with an array of 64 rows, and nothing
 // allocates after the start.
-#[derive(Drop)]
+#[derive(Clone, Copy)]
 pub struct Plan {
     pub(crate) rows: [Row; 64],
     pub(crate) count: usize,

@@ -1,4 +1,5 @@
 -- What a processor serves and holds.
+use Rattle.std.specs.Prelude.{◌≡◌}
 use Rattle.calendar.specs.declared.identity.FlightTexts.{FlightTexts}
 use Rattle.element.specs.declared.model.Element.{Ghosts as ElementGhosts}
 use Rattle.register.specs.declared.meaning.Register.{Ghosts as RegisterGhosts}
@@ -14,6 +15,11 @@ module _ {R E S : Type 0} {r : RegisterGhosts R S} {e : ElementGhosts E} where
   -- its condition, the days of its element, and the flights in its table
   abbrev pub program : Processor R E S r e → Program
   program p = program_of p.condition (e.span p.element) p.table
+
+  -- a call leaves its register as it was, and what its element means
+  pub record Keeps (before after : Processor R E S r e) : Type 0 where
+    pub register : after.register ≡ before.register
+    pub element : e.means after.element ≡ e.means before.element
 
 -- the departure of the flight that four texts name
 abbrev pub departure_of : {S : Type 0} → FlightTexts → Call S

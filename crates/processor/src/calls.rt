@@ -27,6 +27,7 @@ const LARGEST_INPUT: usize = 16_384;
 #[derive(Clone, Copy)]
 pub(crate) struct Failure {
     pub(crate) why: Refusal,
+    // Kept: a number beside the refusal, since it is the second one of the pair that the call answers.
     pub(crate) second: usize,
 }
 

@@ -1,9 +1,10 @@
 ghost use Rattle.std.specs.Prelude.{◌≡◌, [], length, IfOk};
+ghost use Rattle.calendar.specs.Days.{days_of};
 ghost use Rattle.flights.specs.Kept.{flights_of};
 ghost use Rattle.model.specs.Model.{issue, switch, purge};
 ghost use Rattle.model.specs.declared.condition.Condition.TheVariants.{NoProgram};
 ghost use Rattle.processor.specs.Conditions.{refusal, refused_by};
-ghost use Rattle.processor.specs.Held.{setting, program, departure_of};
+ghost use Rattle.processor.specs.Held.{Keeps, setting, program, departure_of};
 ghost use Rattle.processor.specs.Laws.{RefusedUnchanged};
 ghost use Rattle.processor.specs.Pairs.{pair_of};
 ghost use Rattle.processor.specs.Step.{Does};
@@ -11,7 +12,7 @@ ghost use Rattle.processor.specs.Step.{Does};
 use crate::calls::{Failure, Operation, pair};
 use crate::state::Processor;
 use calendar::{FlightTexts, Identity};
-use element::Element;
+use element::{Element, Naming};
 use flights::Table;
 use lists::read_list;
 use model::{Condition, Refusal};
@@ -25,7 +26,7 @@ impl<R: Register + Drop, E: Element + Drop> Processor<R, E> {
     /// A processor without a program. The room for its flights is reserved here, so no call can run
     /// out of memory later.
     pub fn new(heap: Global, register: R, element: E) -> Result<Self, AllocError>
-        ensures { IfOk result (λ p. (p.register ≡ register) × (p.element ≡ element) × (program p ≡ record { condition = NoProgram; days = E.Element.span element; flights = [] })) }
+        ensures { IfOk result (λ p. (p.register ≡ register) × (p.element ≡ element) × (program p ≡ record { condition = NoProgram; days = E.span element; flights = [] })) }
     {
         let table = Table::new(heap)?;
         Ok(Processor {
@@ -42,6 +43,17 @@ impl<R: Register + Drop, E: Element + Drop> Processor<R, E> {
         ensures flights { result.1 ≡ length (flights_of self.now.table) }
     {
         (self.condition, self.table.len())
+    }
+
+    /// The element, and the days by which its slot names and all times are read and written.
+    pub(crate) fn naming(&self) -> Naming<'_, E>
+        ensures element { result.element.now ≡ self.now.element }
+        ensures days { days_of result.days ≡ E.span self.now.element }
+    {
+        Naming {
+            element: &self.element,
+            days: self.element.days(),
+        }
     }
 
     /// Whether the program's condition allows a call, or why it refuses it.
@@ -73,8 +85,7 @@ impl<R: Register + Drop, E: Element + Drop> Processor<R, E> {
     /// Loads a list into the table, which is empty without a program.
     fn load(&mut self, list: &[u8]) -> Result<usize, Failure>
         ensures does { Does (setting self.old) (program self.old) (issue list.now) (program self.new) (pair_of result) }
-        ensures register { self.new.register ≡ self.old.register }
-        ensures element { E.Element.means self.new.element ≡ E.Element.means self.old.element }
+        ensures keeps { Keeps self.old self.new }
     {
         self.allows(Operation::Issue)?;
         if list.len() > LARGEST_LIST {
@@ -96,8 +107,7 @@ impl<R: Register + Drop, E: Element + Drop> Processor<R, E> {
     /// Sets the program on or off.
     fn set(&mut self, on: bool) -> Result<usize, Failure>
         ensures does { Does (setting self.old) (program self.old) (switch on) (program self.new) (pair_of result) }
-        ensures register { self.new.register ≡ self.old.register }
-        ensures element { E.Element.means self.new.element ≡ E.Element.means self.old.element }
+        ensures keeps { Keeps self.old self.new }
     {
         self.allows(Operation::Switch)?;
         self.condition = if on { Condition::On } else { Condition::Off };
@@ -107,8 +117,7 @@ impl<R: Register + Drop, E: Element + Drop> Processor<R, E> {
     /// Ends the program and empties the table.
     fn end(&mut self) -> Result<usize, Failure>
         ensures does { Does (setting self.old) (program self.old) purge (program self.new) (pair_of result) }
-        ensures register { self.new.register ≡ self.old.register }
-        ensures element { E.Element.means self.new.element ≡ E.Element.means self.old.element }
+        ensures keeps { Keeps self.old self.new }
     {
         self.allows(Operation::Purge)?;
         self.table.clear();
@@ -119,8 +128,7 @@ impl<R: Register + Drop, E: Element + Drop> Processor<R, E> {
     /// Marks the flight that four texts name as departed.
     fn mark(&mut self, flight: FlightTexts) -> Result<usize, Failure>
         ensures does { Does (setting self.old) (program self.old) (departure_of flight.entry) (program self.new) (pair_of result) }
-        ensures register { self.new.register ≡ self.old.register }
-        ensures element { E.Element.means self.new.element ≡ E.Element.means self.old.element }
+        ensures keeps { Keeps self.old self.new }
     {
         self.allows(Operation::Depart)?;
         let identity = Identity::read(flight).ok_or(Refusal::NoFlight)?;
@@ -136,8 +144,7 @@ impl<R: Register + Drop, E: Element + Drop> Processor<R, E> {
     pub fn issue(&mut self, list: &[u8]) -> (u32, usize)
         ensures does { Does (setting self.old) (program self.old) (issue list.now) (program self.new) result }
         ensures unchanged { RefusedUnchanged (program self.old) result.0 (program self.new) }
-        ensures register { self.new.register ≡ self.old.register }
-        ensures element { E.Element.means self.new.element ≡ E.Element.means self.old.element }
+        ensures keeps { Keeps self.old self.new }
     {
         pair(self.load(list))
     }
@@ -146,8 +153,7 @@ impl<R: Register + Drop, E: Element + Drop> Processor<R, E> {
     pub fn switch(&mut self, on: bool) -> (u32, usize)
         ensures does { Does (setting self.old) (program self.old) (switch on) (program self.new) result }
         ensures unchanged { RefusedUnchanged (program self.old) result.0 (program self.new) }
-        ensures register { self.new.register ≡ self.old.register }
-        ensures element { E.Element.means self.new.element ≡ E.Element.means self.old.element }
+        ensures keeps { Keeps self.old self.new }
     {
         pair(self.set(on))
     }
@@ -156,8 +162,7 @@ impl<R: Register + Drop, E: Element + Drop> Processor<R, E> {
     pub fn purge(&mut self) -> (u32, usize)
         ensures does { Does (setting self.old) (program self.old) purge (program self.new) result }
         ensures unchanged { RefusedUnchanged (program self.old) result.0 (program self.new) }
-        ensures register { self.new.register ≡ self.old.register }
-        ensures element { E.Element.means self.new.element ≡ E.Element.means self.old.element }
+        ensures keeps { Keeps self.old self.new }
     {
         pair(self.end())
     }
@@ -167,8 +172,7 @@ impl<R: Register + Drop, E: Element + Drop> Processor<R, E> {
     pub fn depart(&mut self, flight: FlightTexts) -> (u32, usize)
         ensures does { Does (setting self.old) (program self.old) (departure_of flight.entry) (program self.new) result }
         ensures unchanged { RefusedUnchanged (program self.old) result.0 (program self.new) }
-        ensures register { self.new.register ≡ self.old.register }
-        ensures element { E.Element.means self.new.element ≡ E.Element.means self.old.element }
+        ensures keeps { Keeps self.old self.new }
     {
         pair(self.mark(flight))
     }

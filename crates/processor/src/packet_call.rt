@@ -6,8 +6,8 @@ ghost use Rattle.model.specs.Refusals.{number};
 ghost use Rattle.packets.specs.Verdict.{all_pass, messages_of};
 ghost use Rattle.plan.specs.Rows.{rows_of, numbers_of, messages_in};
 ghost use Rattle.writing.specs.Overlay.{Wrote};
-ghost use Rattle.answering.specs.Replies.{line_in, rejected_first};
-ghost use Rattle.processor.specs.Held.{setting, program};
+ghost use Rattle.answering.specs.Replies.{line_in, rejected_first, accepted_list};
+ghost use Rattle.processor.specs.Held.{Keeps, setting, program};
 ghost use Rattle.processor.specs.Judging.{Judges};
 ghost use Rattle.processor.specs.Laws.{Promised};
 ghost use Rattle.processor.specs.Packet.{answered, amended_program, by_lines, judged};
@@ -19,7 +19,7 @@ use crate::lines::first_line;
 use crate::state::Processor;
 use answering::{put_acceptance, put_first_fault, put_line_faults};
 use checks::Checker;
-use element::{Element, Naming};
+use element::Element;
 use messages::{Identifier, read_header};
 use model::Refusal;
 use plan::Plan;
@@ -43,8 +43,7 @@ impl<R: Register + Drop, E: Element + Drop> Processor<R, E> {
     pub fn packet(&mut self, sender: &R::Sender, input: &[u8], reply: &mut [u8]) -> (u32, usize)
         ensures sends { Sends (setting self.old) (program self.old) (packet sender.now (input_of input.now) reply.old) (program self.new) result reply.new }
         ensures promised { Promised (setting self.old) (program self.old) sender.now (input_of input.now) reply.old (program self.new) result reply.new }
-        ensures register { self.new.register ≡ self.old.register }
-        ensures element { E.Element.means self.new.element ≡ E.Element.means self.old.element }
+        ensures keeps { Keeps self.old self.new }
     {
         pair(self.receive(sender, input, reply))
     }
@@ -57,8 +56,7 @@ impl<R: Register + Drop, E: Element + Drop> Processor<R, E> {
         reply: &mut [u8],
     ) -> Result<usize, Failure>
         ensures sends { Sends (setting self.old) (program self.old) (packet sender.now (input_of input.now) reply.old) (program self.new) (pair_of result) reply.new }
-        ensures register { self.new.register ≡ self.old.register }
-        ensures element { E.Element.means self.new.element ≡ E.Element.means self.old.element }
+        ensures keeps { Keeps self.old self.new }
     {
         check_sizes(input, reply)?;
         let mut rest = Lines::new(input);
@@ -81,8 +79,7 @@ impl<R: Register + Drop, E: Element + Drop> Processor<R, E> {
         requires line { length first.text.now ≤ 160 }
         requires room { 40960 ≤ length reply.old }
         ensures sends { sending (program self.new) (pair_of result) reply.new ≡ answered (program self.old) reply.old (by_lines (setting self.old) (program self.old) sender.now (identifier_of id.now) (line_of first.entry) (lines_left rest.entry)) }
-        ensures register { self.new.register ≡ self.old.register }
-        ensures element { E.Element.means self.new.element ≡ E.Element.means self.old.element }
+        ensures keeps { Keeps self.old self.new }
     {
         match self.judged(sender, rest) {
             Ok(plan) => self.conclude(id, &plan, reply),
@@ -94,10 +91,7 @@ impl<R: Register + Drop, E: Element + Drop> Processor<R, E> {
     fn judged(&self, sender: &R::Sender, rest: Lines) -> Result<Plan, Refusal>
         ensures { Judges (setting self.now) (program self.now) sender.now (lines_left rest.entry) result }
     {
-        let naming = Naming {
-            element: &self.element,
-            days: self.element.days(),
-        };
+        let naming = self.naming();
         let mut plan = Plan::read(&naming, rest).ok_or(Refusal::LineCount)?;
         let user = self.register.user_of(sender).ok_or(Refusal::UnknownSender)?;
         self.allows(Operation::Packet)?;
@@ -116,19 +110,23 @@ impl<R: Register + Drop, E: Element + Drop> Processor<R, E> {
         requires stands { all_pass (numbers_of plan.now) ≡ true → program_stands (setting self.old).element (amended_program (program self.old) (messages_of (messages_in (rows_of plan.now)))) ≡ true }
         requires room { 40960 ≤ length reply.old }
         ensures sends { sending (program self.new) (pair_of result) reply.new ≡ answered (program self.old) reply.old (judged (setting self.old) (program self.old) (identifier_of id.now) (map line_in (rows_of plan.now)) (messages_in (rows_of plan.now)) (numbers_of plan.now)) }
-        ensures register { self.new.register ≡ self.old.register }
-        ensures element { E.Element.means self.new.element ≡ E.Element.means self.old.element }
+        ensures keeps { Keeps self.old self.new }
     {
         if let Some(why) = plan.first_fault() {
             let second = put_line_faults(reply, id.as_bytes(), plan.filled());
             return Err(Failure { why, second });
         }
         self.table.amend(|flight| plan.amended(flight));
-        let naming = Naming {
-            element: &self.element,
-            days: self.element.days(),
-        };
+        Ok(self.accept(id, plan, reply))
+    }
+
+    /// Writes the reply to a packet that is accepted, with the flights as they are after it.
+    fn accept(&self, id: &Identifier, plan: &Plan, reply: &mut [u8]) -> usize
+        requires { 40960 ≤ length reply.old }
+        ensures wrote { Wrote reply.old 0 (accepted_list (setting self.now).element (program self.now).days (identifier_of id.now) (messages_of (messages_in (rows_of plan.now))) (program self.now).flights) reply.new result }
+    {
+        let naming = self.naming();
         let flights = self.table.flights();
-        Ok(put_acceptance(reply, &naming, id.as_bytes(), flights, plan))
+        put_acceptance(reply, &naming, id.as_bytes(), flights, plan)
     }
 }

@@ -14,14 +14,14 @@ use crate::calls::{Failure, Operation, check_sizes, pair};
 use crate::lines::first_line;
 use crate::state::Processor;
 use answering::{is_reported, put_refused_request, put_report};
-use element::{Element, Naming};
+use element::Element;
 use model::Refusal;
 use register::{Register, User};
 use text::{Line, Lines, count_fields, field_at};
 
 /// Whether a line is readable and has the words EDCT and SLIST and the element's name.
 fn is_request_line<E: Element>(element: &E, line: Line) -> bool
-    ensures { result ≡ is_request_line (E.Element.means element.now) (line_of line.entry) }
+    ensures { result ≡ is_request_line (E.means element.now) (line_of line.entry) }
 {
     let text = line.text;
     line.readable
@@ -33,7 +33,7 @@ fn is_request_line<E: Element>(element: &E, line: Line) -> bool
 
 /// Whether an input is one such line.
 fn is_request<E: Element>(element: &E, input: &[u8]) -> bool
-    ensures { result ≡ is_request (E.Element.means element.now) (lines input.now) }
+    ensures { result ≡ is_request (E.means element.now) (lines input.now) }
 {
     let mut lines = Lines::new(input);
     match (lines.next(), lines.next()) {
@@ -83,10 +83,7 @@ impl<R: Register + Drop, E: Element + Drop> Processor<R, E> {
         requires { 40960 ≤ length reply.old }
         ensures wrote { Wrote reply.old 0 (reported_list (setting self.now).element (program self.now).days (reports (setting self.now) (number_of user)) (program self.now).flights) reply.new result }
     {
-        let naming = Naming {
-            element: &self.element,
-            days: self.element.days(),
-        };
+        let naming = self.naming();
         let flights = self.table.flights();
         put_report(reply, &naming, flights, |flight| {
             is_reported(&self.register, user, flight)

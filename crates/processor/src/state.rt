@@ -15,5 +15,5 @@ pub struct Processor<R: Register + Drop, E: Element + Drop> {
     pub(crate) element: E,
     pub(crate) condition: Condition,
     pub(crate) table: Table,
-    ghost stands: { program_stands (E.Element.means element) (program_of condition (E.Element.span element) table) ≡ true },
+    ghost stands: { program_stands (E.means element) (program_of condition (E.span element) table) ≡ true },
 }

@@ -30,6 +30,7 @@ pub type CarrierCode = Capitals<3>;
 #[derive(Clone, Copy, Debug, PartialEq, Eq)]
 pub struct NotCapitals;
 
+// Kept: by hand, since a derive of Display and Error promises nothing of what is printed.
 impl fmt::Display for NotCapitals {
     ghost use Rattle.std.specs.Prelude.{Some, codes};
 

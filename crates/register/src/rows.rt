@@ -42,6 +42,7 @@ impl<K> Model for Rows<K> {
 #[derive(Clone, Copy, Debug, PartialEq, Eq)]
 pub struct Full;
 
+// Kept: by hand, since a derive of Display and Error promises nothing of what is printed.
 impl fmt::Display for Full {
     ghost use Rattle.std.specs.Prelude.{Some, codes};
 

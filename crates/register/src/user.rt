@@ -26,6 +26,7 @@ impl Model for User {
 #[derive(Clone, Copy, Debug, PartialEq, Eq)]
 pub struct NoUser;
 
+// Kept: by hand, since a derive of Display and Error promises nothing of what is printed.
 impl fmt::Display for NoUser {
     ghost use Rattle.std.specs.Prelude.{Some, codes};
 

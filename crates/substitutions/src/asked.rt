@@ -28,6 +28,7 @@ impl Message {
     }
 
     /// The seat of a move.
+    // Kept: beside `creation`, each the name of one call of `seat_by`.
     pub fn move_to(&self) -> Option<Seat>
         ensures { option_map kept_seat result ≡ move_of (kept_message self.now) }
     {

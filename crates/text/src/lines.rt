@@ -42,6 +42,7 @@ fn chomp(s: &[u8], b: u8) -> &[u8]
 
 /// The fields of a line, parted by exactly one space each.
 #[derive(Clone, Copy)]
+// Kept: a cursor of our own, and Lines with it: the library's split carries a closure, whose type no struct can name.
 pub struct Fields<'a> {
     rest: Option<&'a [u8]>,
 }

@@ -21,6 +21,7 @@ fn overwritten<const N: usize>(old: [u8; N], at: usize, text: &[u8]) -> [u8; N]
 impl<const N: usize> ShortText<N> {
     /// The text, where it is short enough.
     #[tactic(auto, using(crate::proofs::Scans::shortened_fits))]
+    // Kept: an Option and no TryFrom: that it is too long is all that there is to say.
     pub fn new(text: &[u8]) -> Option<Self>
         ensures { option_map text_of result ≡ shortened N text.now }
     {

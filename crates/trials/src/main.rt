@@ -5,10 +5,11 @@
 
 use anyhow::Context;
 use calendar::Days;
-use desk::serve_stdin;
+use desk::serve;
 use element::FlowArea;
 use processor::Processor;
 use register::{Address, ArincRegister, CarrierCode, User};
+use std::io::Read;
 
 /// Adds a user with its return address and its carrier code.
 fn add_user(
@@ -37,8 +38,10 @@ fn area() -> anyhow::Result<FlowArea> {
 }
 
 fn main(rt: HostRuntime) -> anyhow::Result<()> {
+    let mut input = Vec::new(rt.alloc());
+    rt.stdin().read_to_end(&mut input)?;
     let mut processor = Processor::new(rt.alloc(), two_users(&rt)?, area()?)?;
-    serve_stdin(&rt, &mut processor)?;
+    serve(&rt, &mut processor, input.as_slice())?;
     Ok(())
 }
 

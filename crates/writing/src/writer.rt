@@ -4,7 +4,7 @@ ghost use Rattle.writing.specs.Writers.{HasRoom, Puts};
 
 use itoa::Buffer;
 
-/// A lent buffer that is written from its start, and how many of its bytes are written.
+/// A lent buffer that is written in order, and the place up to which it is written.
 // Kept: a slice and a count, since a reply stands in its caller's buffer and nothing allocates after the start.
 #[derive(Drop)]
 pub struct Writer<'a> {
@@ -19,10 +19,19 @@ impl<'a> Writer<'a> {
         ensures same_buffer { result.buffer.ghost_name ≡ buffer.entry.ghost_name }
         ensures none_written { result.written ≡ 0 }
     {
-        Writer { buffer, written: 0 }
+        Writer::at(buffer, 0)
     }
 
-    /// How many bytes are written.
+    /// A writer from a place on: what stands before it stays.
+    pub fn at(buffer: &'a mut [u8], written: usize) -> Writer<'a>
+        ensures buffer { result.buffer.now ≡ buffer.old }
+        ensures same_buffer { result.buffer.ghost_name ≡ buffer.entry.ghost_name }
+        ensures place { result.written ≡ written }
+    {
+        Writer { buffer, written }
+    }
+
+    /// The place up to which the buffer is written: in a writer from the start, how many bytes are.
     pub fn written(&self) -> usize
         ensures { result ≡ self.now.written }
     {

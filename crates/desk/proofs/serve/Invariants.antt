@@ -1,12 +1,11 @@
 use Rattle.std.proofs.Common.{◌≡◌}
 use Rattle.blocks.specs.Blocks.{blocks, blocks_left}
-use Rattle.processor.specs.Held.{setting, program}
+use Rattle.processor.specs.Held.{Keeps, setting, program}
 use Rattle.desk.specs.Told.{after_all}
 use Rattle.desk.proofs.serve.Given as goal
 
 abbrev pub invariant-loop-block : goal.invariant-loop-block
 invariant-loop-block g l =
     let start = l.initial.processor in
-    (l.processor.register ≡ start.register)
-    × (g.E.Element.means l.processor.element ≡ g.E.Element.means start.element)
+    Keeps start l.processor
     × (after_all (setting start) (program l.processor) (blocks_left l.block-iterator) ≡ after_all (setting start) (program start) (blocks l.input))

@@ -18,12 +18,11 @@ loop-turn-preserved g c =
     let p' = program c.take.new.processor in
     let inv = c.loop-turn.invariant in
     let same : setting old ≡ setting start =
-    ap₂ (λ (r : g.row.R.Denot) (m : Meaning). setting_of (g.R.Register.owner r) (g.R.Register.carrier r) m) inv.0 inv.1 in
+    ap₂ (λ (r : g.row.R.Denot) (m : Meaning). setting_of (g.R.Register.owner r) (g.R.Register.carrier r) m) inv.0.register inv.0.element in
     let i = c.loop-turn.turn-index in
     let h : i < length c.loop-turn.turns = omega arith in (
-      c.take.ensures.register ∙ inv.0,
-      c.take.ensures.element ∙ inv.1,
-      going_turn (setting start) (program start) p p' c.args.turns.now c.loop-turn.turns i c.turn-item.result c.take.new.turn inv.2 h c.turn-item.is
+      record { register = c.take.ensures.keeps.register ∙ inv.0.register; element = c.take.ensures.keeps.element ∙ inv.0.element },
+      going_turn (setting start) (program start) p p' c.args.turns.now c.loop-turn.turns i c.turn-item.result c.take.new.turn inv.1 h c.turn-item.is
           (subst (λ (k : Setting g.row.R-Sender.Denot). Taken k p p' c.turn-item.result c.take.new.turn) same
           (subst (λ (x : Turn g.row.R-Sender.Denot). Taken (setting old) p p' x c.take.new.turn) (sym c.turn-item.is) c.take.ensures.takes)),
     )
@@ -36,6 +35,6 @@ returns g c =
     let p = program c.loop-turn.processor in
     let turns = c.args.turns.now in
     let inv = c.loop-turn.invariant in
-    let ran = going_end s p₀ p turns c.loop-turn.turns c.loop-turn.turn-index inv.2 (omega arith) in
+    let ran = going_end s p₀ p turns c.loop-turn.turns c.loop-turn.turn-index inv.1 (omega arith) in
     let none = (and_parts (table_stands s.element p₀.flights) _ start.stands).1 in
-    record { ran = ran; lawful = lawful s p₀ p turns c.loop-turn.turns none ran; register = inv.0; element = inv.1 }
+    record { ran = ran; lawful = lawful s p₀ p turns c.loop-turn.turns none ran; keeps = inv.0 }

@@ -41,7 +41,7 @@ returns-clause-sends g c =
     let os = messages_in (rows_of plan) in
     let ns = numbers_of plan in
     let amends : flights_of c.amend.new.self ≡ map (amended (messages_of os)) p.flights = c.amend.ensures _ (λ f f' k. search rules) in
-    acceptance_said s p (program_of p.condition p.days c.amend.new.self) (identifier_of c.args.id.now) (map line_in (rows_of plan)) os ns c.put_acceptance.result c.args.reply.now c.put_acceptance.new.out
+    acceptance_said s p (program_of p.condition p.days c.amend.new.self) (identifier_of c.args.id.now) (map line_in (rows_of plan)) os ns c.accept.result c.args.reply.now c.accept.new.reply
     (none_passes ns (sym c.in_default.ensures))
     (ap (λ (fs : List Flight). record { condition = p.condition; days = p.days; flights = fs }) amends)
-    (rw (c.as_bytes-2.ensures.text, c.days.ensures, c.flights-flights.ensures.value, amends) at c.put_acceptance.ensures.wrote)
+    (rw amends at c.accept.ensures.wrote)

@@ -1,7 +1,6 @@
 use Rattle.std.proofs.Common.{◌≡◌, List, map, Some, Option, sym, ap, ◌∙◌}
 use Rattle.std.specs.Option.{option_map}
 use Rattle.text.specs.Lines.{lines_left}
-use Rattle.calendar.specs.Days.{Days}
 use Rattle.register.specs.Users.{number_of as user_number}
 use Rattle.packets.specs.Messages.{Message, message_read}
 use Rattle.packets.specs.Verdict.{messages_of, all_pass, line_numbers}
@@ -25,7 +24,7 @@ returns g c =
     let start = rw c.in_ok-plan.ensures.ok_part at c.read.ensures in
     let known : s.user c.args.sender.now ≡ Some u = sym c.user_of.ensures ∙ ap (option_map user_number) c.in_ok-user.ensures.ok_part in
     let on = sym c.in_ok-allows.ensures in
-    let rows = start.1 ∙ ap (λ (d : Days). map (row_read s.element d) ls) c.days.ensures in
+    let rows : rows_of c.in_ok-plan.plan ≡ map (row_read s.element p.days) ls = rw (c.naming-naming.ensures.element, c.naming-naming.ensures.days) at start.1 in
     let read : messages_in (rows_of c.in_ok-plan.plan) ≡ os = ap messages_in rows ∙ messages_back s p ls in
     let working : at_work p.days p.flights ≡ p =
     ap (λ (k : Condition). record { condition = k; days = p.days; flights = p.flights }) (sym (condition_on old.condition on)) in

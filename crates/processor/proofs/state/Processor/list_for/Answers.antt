@@ -7,4 +7,4 @@ use Rattle.processor.proofs.state.Processor.list_for.Goals as goal
 pub returns : goal.returns
 returns g c =
     let listed = reports (setting c.args.self.now) (number_of c.args.user) in
-    record { wrote = rw (c.days.ensures, c.flights-flights.ensures.value) at (c.put_report.ensures.wrote listed (λ f f' k. search rules)) }
+    record { wrote = rw (c.naming-naming.ensures.element, c.naming-naming.ensures.days, c.flights-flights.ensures.value) at (c.put_report.ensures.wrote listed (λ f f' k. search rules)) }
