@@ -1,28 +1,27 @@
-ghost use Rattle.std.specs.Prelude.{◌≡◌, ◌+◌, ◌*◌, ◌≤◌, map, length};
+ghost use Rattle.std.specs.Prelude.{◌≡◌, ◌+◌, ◌*◌, ◌<◌, ◌≤◌, map, length};
 ghost use Rattle.text.specs.Lines.{line_of};
-ghost use Rattle.model.specs.Refusals.{number};
 ghost use Rattle.writing.specs.Overlay.{Wrote};
 ghost use Rattle.writing.specs.Writers.{HasRoom, Puts};
 ghost use Rattle.plan.specs.Rows.{row_of, number_of};
 ghost use Rattle.answering.specs.Replies.{faults, fault_lines, line_in, rejected_first, rejected_lines};
 
-use model::Refusal;
 use plan::Row;
 use replies::{put_fault, put_rejected};
 use text::Line;
 use writing::Writer;
 
-/// The reply to a packet that is rejected for its first line.
-// Kept: the id as bytes with a bound, since `-` stands where no identifier was read.
-pub fn put_first_fault(out: &mut [u8], id: &[u8], first: Line, refusal: Refusal) -> usize
+/// The reply to a packet that is rejected for its first line, by a number below 1,000.
+// Kept: the id as bytes with a bound, since `-` stands where no identifier was read; and a number, as in put_fault.
+pub fn put_first_fault(out: &mut [u8], id: &[u8], first: Line, number: u32) -> usize
     requires short_id { length id.now ≤ 16 }
     requires short_line { length first.text.now ≤ 160 }
+    requires small { number < 1000 }
     requires room { 40960 ≤ length out.old }
-    ensures wrote { Wrote out.old 0 (rejected_first id.now (line_of first.entry) (number refusal)) out.new result }
+    ensures wrote { Wrote out.old 0 (rejected_first id.now (line_of first.entry) number) out.new result }
 {
     let mut reply = Writer::new(out);
     put_rejected(&mut reply, id, 1);
-    put_fault(&mut reply, first.text, refusal);
+    put_fault(&mut reply, first.text, number);
     reply.written()
 }
 
@@ -42,7 +41,7 @@ fn put_faults(reply: &mut Writer, rows: &[Row])
 {
     for row in rows {
         if let Some(refusal) = row.fault() {
-            put_fault(reply, row.text(), refusal);
+            put_fault(reply, row.text(), refusal.number());
         }
     }
 }

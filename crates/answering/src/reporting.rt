@@ -1,11 +1,10 @@
-ghost use Rattle.std.specs.Prelude.{Bool, ◌≡◌, ◌≤◌, ◌&&◌, map, length, is_some};
+ghost use Rattle.std.specs.Prelude.{Bool, ◌≡◌, ◌<◌, ◌≤◌, ◌&&◌, map, length, is_some};
 ghost use Rattle.std.specs.Fn.{FnReturnsAt};
 ghost use Rattle.text.specs.Lines.{line_of};
 ghost use Rattle.calendar.specs.Days.{days_of};
 ghost use Rattle.calendar.specs.Identities.{carrier_of};
 ghost use Rattle.flights.specs.Flights.{Flight as FlightMeant};
 ghost use Rattle.flights.specs.Kept.{Chooses, flight_of};
-ghost use Rattle.model.specs.Refusals.{number};
 ghost use Rattle.register.specs.Users.{number_of};
 ghost use Rattle.packets.specs.StageOne.{is_user};
 ghost use Rattle.writing.specs.Overlay.{Wrote};
@@ -14,21 +13,22 @@ ghost use Rattle.answering.specs.Replies.{refused_request, reported_list};
 use checks::owns;
 use element::{Element, Naming};
 use flights::Flight;
-use model::Refusal;
 use register::{Register, User};
 use replies::{put_fault, put_list_opening, put_rows};
 use text::Line;
 use writing::Writer;
 
-/// The reply to a request that is refused: its first line, and the number of the refusal.
-pub fn put_refused_request(out: &mut [u8], first: Line, refusal: Refusal) -> usize
+/// The reply to a request that is refused: its first line, and a number below 1,000.
+// Kept: a number, as in put_fault.
+pub fn put_refused_request(out: &mut [u8], first: Line, number: u32) -> usize
     requires short { length first.text.now ≤ 160 }
+    requires small { number < 1000 }
     requires room { 40960 ≤ length out.old }
-    ensures wrote { Wrote out.old 0 (refused_request (line_of first.entry) (number refusal)) out.new result }
+    ensures wrote { Wrote out.old 0 (refused_request (line_of first.entry) number) out.new result }
 {
     let mut reply = Writer::new(out);
     reply.put(b"RQ REJECTED. 1 ERROR.\n\n");
-    put_fault(&mut reply, first.text, refusal);
+    put_fault(&mut reply, first.text, number);
     reply.written()
 }
 

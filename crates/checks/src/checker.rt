@@ -13,7 +13,7 @@ use crate::alone::{
     controlled, ete_unfit, incomplete, no_slot_name, off_minute, off_slot, on_pop_up, uncontrolled,
     untimely,
 };
-use crate::holding::{find_holder, find_named, owns};
+use crate::holding::{find_named, owns, user_holder};
 use element::{Element, Slot};
 use flights::{Flight, Table};
 use model::Refusal;
@@ -63,10 +63,9 @@ impl<'a, R: Register, E: Element> Checker<'a, R, E> {
     }
 
     /// The one of some flights that is the user's and holds a slot.
-    #[tactic(auto, using(crate::proofs::Found::held_by))]
     pub fn user_holder(&self, slot: &Slot, flights: &[Flight]) -> Option<Flight>
         ensures { option_map flight_of result ≡ holder (setting R.Register E.Element self.now) (user_number self.now.user) (slot_of slot.now) (map flight_of flights.now) }
     {
-        find_holder(flights, self.register, self.user, slot).copied()
+        user_holder(self.register, self.element, self.user, slot, flights)
     }
 }

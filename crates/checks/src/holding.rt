@@ -5,11 +5,13 @@ ghost use Rattle.calendar.specs.Identities.{identity_of, carrier_of, same_identi
 ghost use Rattle.element.specs.Kept.{slot_of};
 ghost use Rattle.flights.specs.Flights.{is_slot};
 ghost use Rattle.flights.specs.Kept.{flight_of};
+ghost use Rattle.model.specs.Model.{setting_of};
 ghost use Rattle.register.specs.Users.{number_of};
 ghost use Rattle.packets.specs.StageOne.{find_named, is_user};
+ghost use Rattle.packets.specs.StageTwo.{holder};
 
 use calendar::Identity;
-use element::Slot;
+use element::{Element, Slot};
 use flights::Flight;
 use register::{Register, User};
 
@@ -39,8 +41,8 @@ pub fn owns<R: Register>(register: &R, user: User, flight: &Flight) -> bool
     register.user_of_carrier(flight.identity.carrier()) == Some(user)
 }
 
-/// The flight of the user that holds a slot.
-pub(crate) fn find_holder<'a, R: Register>(
+/// The first flight that belongs to the user and holds a slot.
+fn find_holder<'a, R: Register>(
     flights: &'a [Flight],
     register: &R,
     user: User,
@@ -51,4 +53,19 @@ pub(crate) fn find_holder<'a, R: Register>(
     flights
         .iter()
         .find(|f| owns(register, user, f) && f.slot == Some(*slot))
+}
+
+/// The flight of the user that holds a slot. Only the contract speaks of the element.
+// Kept: beside the method of Checker, since a caller may have flights and no table.
+#[tactic(auto, using(crate::proofs::Found::held_by))]
+pub fn user_holder<R: Register, E: Element>(
+    register: &R,
+    element: &E,
+    user: User,
+    slot: &Slot,
+    flights: &[Flight],
+) -> Option<Flight>
+    ensures { option_map flight_of result ≡ holder (setting_of (R.owner register.now) (R.carrier register.now) (E.means element.now)) (number_of user) (slot_of slot.now) (map flight_of flights.now) }
+{
+    find_holder(flights, register, user, slot).copied()
 }

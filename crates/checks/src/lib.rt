@@ -7,4 +7,4 @@ mod checker;
 mod holding;
 
 pub use checker::Checker;
-pub use holding::owns;
+pub use holding::{owns, user_holder};

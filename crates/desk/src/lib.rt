@@ -50,9 +50,12 @@ pub fn serve<R: Register + Drop, E: Element + Drop>(
     ensures program { OnOk result ((program processor.new) ≡ after_all (setting processor.old) (program processor.old) (blocks input.now)) }
     ensures keeps { Keeps processor.old processor.new }
 {
+    // Kept: counted as they go, since `count` would read all blocks a second time.
+    let mut answered = 0;
     for block in Blocks::new(input) {
         let pair = answer(processor, block);
         print_answer(rt, pair)?;
+        answered += 1;
     }
-    Ok(Blocks::new(input).count())
+    Ok(answered)
 }

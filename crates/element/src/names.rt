@@ -14,17 +14,23 @@ use text::ShortText;
 fn read_suffix(days: &Days, text: &[u8]) -> Option<Slot>
     ensures { option_map slot_of result ≡ suffix_read (days_of days.now) text.now }
 {
-    let [b'.', time @ .., letter] = text else {
+    let [b'.', time @ .., letter @ b'A'..=b'Z'] = text else {
         return None;
     };
     Slot::new(days.read_time(time)?, *letter)
 }
 
 /// Reads a slot name of the element with the name given.
+// Kept: by place, since with strip_prefix a text of another name took twice as many instructions.
 pub(crate) fn read_pointed(name: &[u8], days: &Days, text: &[u8]) -> Option<Slot>
     ensures { option_map slot_of result ≡ pointed_read name.now (days_of days.now) text.now }
 {
-    read_suffix(days, text.strip_prefix(name)?)
+    let n = name.len();
+    if n <= text.len() && &text[..n] == name {
+        read_suffix(days, &text[n..])
+    } else {
+        None
+    }
 }
 
 /// The slot name of the element with the name given.

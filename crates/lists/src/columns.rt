@@ -33,6 +33,9 @@ pub struct Columns<'a> {
 pub fn read_columns<'a>(line: Line<'a>) -> Option<Columns<'a>>
     ensures { option_map columns_of result ≡ columns_read (line_of line.entry) }
 {
+    if !line.readable {
+        return None;
+    }
     let mut fields = Fields::new(line.text);
     let columns = Columns {
         id: fields.next()?,
@@ -48,7 +51,7 @@ pub fn read_columns<'a>(line: Line<'a>) -> Option<Columns<'a>>
         erta: fields.next()?,
         date: fields.next()?,
     };
-    if line.readable && fields.next().is_none() {
+    if fields.next().is_none() {
         Some(columns)
     } else {
         None

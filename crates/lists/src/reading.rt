@@ -16,12 +16,15 @@ use text::{Fields, Line, Lines};
 fn read_heading<E: Element>(element: &E, line: Line) -> Option<Days>
     ensures { option_map days_of result ≡ heading_read (E.Element.means element.now) (line_of line.entry) }
 {
+    if !line.readable {
+        return None;
+    }
     let mut fields = Fields::new(line.text);
     let word = fields.next()?;
     let name = fields.next()?;
     let base = fields.next()?;
     let month = fields.next()?;
-    if !line.readable || fields.next().is_some() {
+    if fields.next().is_some() {
         return None;
     }
     if word == b"ISSUE".as_slice() && name == element.name() {

@@ -50,9 +50,14 @@ impl Identifier {
 pub fn read_header<'a>(line: Line<'a>) -> Option<Identifier>
     ensures { option_map identifier_of result ≡ header_read (line_of line.entry) }
 {
+    if !line.readable {
+        return None;
+    }
     let mut fields = Fields::new(line.text);
-    match (fields.next(), fields.next(), fields.next()) {
-        (Some(b"SS"), Some(id), None) if line.readable => Identifier::read(id),
+    let word = fields.next()?;
+    let id = fields.next()?;
+    match (word, fields.next()) {
+        (b"SS", None) => Identifier::read(id),
         _ => None,
     }
 }

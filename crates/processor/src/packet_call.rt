@@ -34,7 +34,7 @@ fn reject_first(reply: &mut [u8], id: &[u8], first: Line, why: Refusal) -> Failu
     ensures why { result.why ≡ why }
     ensures wrote { Wrote reply.old 0 (rejected_first id.now (line_of first.entry) (number why)) reply.new result.second }
 {
-    let second = put_first_fault(reply, id, first, why);
+    let second = put_first_fault(reply, id, first, why.number());
     Failure { why, second }
 }
 

@@ -59,7 +59,7 @@ impl<R: Register + Drop, E: Element + Drop> Processor<R, E> {
             Ok(user) => Ok(self.list_for(user, reply)),
             Err(why) => {
                 let first = first_line(&mut Lines::new(input));
-                let second = put_refused_request(reply, first, why);
+                let second = put_refused_request(reply, first, why.number());
                 Err(Failure { why, second })
             }
         }

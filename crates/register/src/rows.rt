@@ -1,8 +1,10 @@
 ghost use Rattle.std.specs.Prelude.{◌≡◌, [], ◌∷◌, ◌++◌, IfOk, if◌then◌else◌, is_ok, length, nat_lt};
 ghost use Rattle.std.specs.Option.{option_map};
 ghost use Rattle.register.specs.Users.{number_of};
+ghost use Rattle.register.specs.Keys.{is_spelt};
 ghost use Rattle.register.specs.Tables.{first_with};
 
+use crate::keys::CarrierCode;
 use crate::user::User;
 use std::alloc::{AllocError, Global};
 use std::error::Error;
@@ -83,6 +85,19 @@ impl<K: Copy + Eq> Rows<K> {
         self.rows
             .iter()
             .find(|row| row.key == *key)
+            .map(|row| row.user)
+    }
+}
+
+impl Rows<CarrierCode> {
+    /// The user in the first row whose code is spelt so; a text that is no code is asked for too.
+    // Kept: beside `user_for`, since a code made of the text first cost half as much again.
+    pub fn user_spelt(&self, text: &[u8]) -> Option<User>
+        ensures { option_map number_of result ≡ first_with (λ code. is_spelt code text.now) self.now }
+    {
+        self.rows
+            .iter()
+            .find(|row| row.key.letters.as_slice() == text)
             .map(|row| row.user)
     }
 }

@@ -62,7 +62,6 @@ impl<S: Copy + Eq> Register for UserRegister<S> {
     }
 
     fn user_of_carrier(&self, code: &[u8]) -> Option<User> {
-        let code = CarrierCode::try_from(code).ok()?;
-        self.carriers.user_for(&code)
+        self.carriers.user_spelt(code)
     }
 }

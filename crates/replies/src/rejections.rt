@@ -1,9 +1,7 @@
-ghost use Rattle.std.specs.Prelude.{◌≡◌, ◌+◌, ◌≤◌, length};
-ghost use Rattle.model.specs.Refusals.{number};
+ghost use Rattle.std.specs.Prelude.{◌≡◌, ◌+◌, ◌<◌, ◌≤◌, length};
 ghost use Rattle.writing.specs.Writers.{HasRoom, Puts};
 ghost use Rattle.replies.specs.Rejections.{error_word, rejected, fault};
 
-use model::Refusal;
 use writing::Writer;
 
 /// ` ERROR.` after the number 1, and ` ERRORS.` after another.
@@ -31,15 +29,17 @@ pub fn put_rejected(reply: &mut Writer, id: &[u8], errors: usize)
     reply.put(b"\n\n");
 }
 
-/// A faulty line, and the line with the number of its error.
-pub fn put_fault(reply: &mut Writer, text: &[u8], refusal: Refusal)
+/// A faulty line, and the line with the number of its error, which is below 1,000.
+// Kept: a number and no Refusal, since any number may be printed here.
+pub fn put_fault(reply: &mut Writer, text: &[u8], number: u32)
     requires short { length text.now ≤ 160 }
+    requires small { number < 1000 }
     requires room { HasRoom reply.old 169 }
-    ensures puts { Puts reply.old (fault text.now (number refusal)) reply.new }
+    ensures puts { Puts reply.old (fault text.now number) reply.new }
     ensures most { reply.new.written ≤ reply.old.written + 169 }
 {
     reply.put(text);
     reply.put(b"\nERR ");
-    reply.put_number(refusal.number());
+    reply.put_number(number);
     reply.put(b"\n");
 }

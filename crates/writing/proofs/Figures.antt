@@ -1,22 +1,21 @@
--- The digits that the library prints are those of `decimal`.
-use Rattle.std.proofs.Common.{◌≡◌, ℕ, zero, suc, ◌+◌, ◌/◌, ◌%◌, ◌<◌, ◌≤◌, ◌^◌, List, [], ◌∷◌, ◌++◌, length, sym, ap, ◌∙◌, ⊎_elim, arith}
-use Rattle.std.specs.Fmt.{decimal as printed}
-use Rattle.std.proofs.lemmas.Bool.{le-leb, lt-leb, cases_lt}
-use Rattle.std.proofs.lemmas.Fmt.{decimal_digit, decimal_step, length-decimal-le}
-use Rattle.writing.specs.Decimals.{decimal_by, decimal}
+-- The digits of numbers below 1000.
+use Rattle.std.proofs.Common.{◌≡◌, ℕ, ◌+◌, ◌/◌, ◌%◌, ◌<◌, ◌≤◌, [], ◌∷◌, arith}
+use Rattle.std.proofs.lemmas.Bool.{le-leb, lt-leb}
+use Rattle.writing.specs.Decimals.{decimal}
 
-one_digit : (k n : ℕ) → n < 10 → decimal_by (suc k) n ≡ printed n
-one_digit k n l = rw (le-leb n 9 (omega arith)) (sym (decimal_digit n l))
-
-digits_by : (k n : ℕ) → n < 10 ^ suc k → n < 2 ^ 64 → decimal_by (suc k) n ≡ printed n
-digits_by zero n few h = one_digit zero n (omega (arith, few))
-digits_by (suc k) n few h = ⊎_elim (one_digit (suc k) n) (λ l.
-    rw (lt-leb n 9 (omega arith))
-    (ap (λ (ds : List ℕ). ds ++ (48 + n % 10) ∷ []) (digits_by k (n / 10) (omega (arith, few)) (omega arith)) ∙ sym (decimal_step n l h))) (cases_lt n 10)
-
-pub digits_printed : (n : ℕ) → n < 1000 → printed n ≡ decimal n
+pub one_digit : (n : ℕ) → n < 10 → decimal n ≡ (48 + n % 10) ∷ []
 unfolding decimal
-digits_printed n h = sym (digits_by 9 n (omega arith) (omega arith))
+one_digit n h =
+    let e : n % 10 ≡ n = omega arith in
+    rw (le-leb n 9 (omega arith), e)
 
-pub three_at_most : (n : ℕ) → n < 1000 → length (decimal n) ≤ 3
-three_at_most n h = rw (← digits_printed n h) (length-decimal-le 3 n (omega arith) (omega arith) (omega arith))
+pub two_digits : (n : ℕ) → 10 ≤ n → n < 100 → decimal n ≡ (48 + n / 10 % 10) ∷ (48 + n % 10) ∷ []
+unfolding decimal
+two_digits n l h =
+    let e : n / 10 % 10 ≡ n / 10 = omega arith in
+    rw (lt-leb n 9 (omega arith), le-leb (n / 10) 9 (omega arith), e)
+
+pub three_digits : (n : ℕ) → 100 ≤ n → n < 1000 → decimal n ≡ (48 + n / 10 / 10) ∷ (48 + n / 10 % 10) ∷ (48 + n % 10) ∷ []
+unfolding decimal
+three_digits n l h =
+    rw (lt-leb n 9 (omega arith), lt-leb (n / 10) 9 (omega arith), le-leb (n / 10 / 10) 9 (omega arith))

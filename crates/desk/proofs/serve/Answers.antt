@@ -1,7 +1,6 @@
-use Rattle.std.proofs.Common.{length, ap, inl, arith}
+use Rattle.std.proofs.Common.{arith}
 use Rattle.blocks.proofs.Counts.{most_blocks}
 use Rattle.desk.proofs.serve.Goals as goal
 
-pub count-requires-clause-fits : goal.count-requires-clause-fits
-count-requires-clause-fits g c =
-    inl (omega (arith, most_blocks c.args.input.now, ap length c.new.ensures, c.well_formed))
+pub overflow_add-answered : goal.overflow_add-answered
+overflow_add-answered g c = omega (arith, most_blocks c.args.input.now, c.loop-block.invariant.0, c.well_formed)

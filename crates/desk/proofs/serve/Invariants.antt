@@ -1,4 +1,4 @@
-use Rattle.std.proofs.Common.{◌≡◌}
+use Rattle.std.proofs.Common.{◌≡◌, ◌+◌, length}
 use Rattle.blocks.specs.Blocks.{blocks, blocks_left}
 use Rattle.processor.specs.Held.{Keeps, setting, program}
 use Rattle.desk.specs.Told.{after_all}
@@ -7,5 +7,6 @@ use Rattle.desk.proofs.serve.Given as goal
 abbrev pub invariant-loop-block : goal.invariant-loop-block
 invariant-loop-block g l =
     let start = l.initial.processor in
-    Keeps start l.processor
+    (l.answered + length (blocks_left l.block-iterator) ≡ length (blocks l.input))
+    × Keeps start l.processor
     × (after_all (setting start) (program l.processor) (blocks_left l.block-iterator) ≡ after_all (setting start) (program start) (blocks l.input))

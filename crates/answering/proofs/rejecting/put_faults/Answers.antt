@@ -15,7 +15,7 @@ loop-row-preserved c =
     let row = c.row-item.result in
     let one : Puts c.loop-row.reply (row_fault row) c.match-fault.reply =
     elim c.match-fault.branch [
-      | in-Some w ↦ rw (w.reply-is, fault_some (row_of row).line w.in-Some.refusal (number_of row) w.in-Some.ensures) (rw w.text.ensures.text at w.put_fault.ensures.puts)
+      | in-Some w ↦ rw (w.reply-is, fault_some (row_of row).line w.in-Some.refusal (number_of row) w.in-Some.ensures) (rw (w.text.ensures.text, w.number.ensures.number) at w.put_fault.ensures.puts)
       | in_default w ↦ rw (w.reply-is, fault_none (row_of row).line (number_of row) w.in_default.ensures) (puts_none c.loop-row.reply)
     ] in (
       each_more row_fault c.args.rows.now c.loop-row.row-index row c.loop-row-test.true c.row-item.is c.loop-row.invariant.0 one,
